@@ -1,0 +1,40 @@
+-- The declared records as the rules have them. It gives no field a meaning.
+use mathlib.Core.List.{List, [], _∷_}
+use Prim.Native.Nat.{ℕ}
+use Rattle.rules.specs.Tile.{Tile}
+use Rattle.rules.specs.Refusal.{Outcome}
+use Rattle.rdp.specs.declared.tile.TileDescriptor.{TileDescriptor}
+use Rattle.rdp.specs.declared.answer.Answer.{Answer}
+use Rattle.rdp.specs.declared.answer.YesAnswer.{YesAnswer}
+use Rattle.rdp.specs.declared.answer.SamplingAnswer.{SamplingAnswer}
+
+-- the same fields, with the units' numbers
+abbrev pub tileOf : TileDescriptor → Tile
+tileOf t =
+    record {
+      fmt = t .fmt;
+      siz = t .siz;
+      palette = t .palette;
+      cms = t .cms;
+      cmt = t .cmt;
+      masks = t .masks;
+      maskt = t .maskt;
+      line = t .line .0;
+      tmem-addr = t .«tmem_addr» .0;
+      width = t .width;
+      height = t .height;
+    }
+
+-- a call's answer with the lent buffers as it left them
+abbrev pub answered : Answer → List (List ℕ) → Outcome
+answered r left = record { refusal = r .refusal; numbers = r .count ∷ []; buffers = left }
+
+abbrev pub yesAnswered : YesAnswer → Outcome
+yesAnswered r = record { refusal = r .refusal; numbers = r .yes ∷ []; buffers = [] }
+
+abbrev pub samplingAnswered : SamplingAnswer → Outcome
+samplingAnswered r = record { refusal = r .refusal; numbers = r .flag ∷ r .width ∷ r .height ∷ []; buffers = [] }
+
+-- the answer of a call that has no number beside its refusal
+abbrev pub refusalAnswered : ℕ → List (List ℕ) → Outcome
+refusalAnswered refusal left = record { refusal = refusal; numbers = []; buffers = left }

@@ -1,0 +1,24 @@
+// What the public calls answer: a refusal, 0 for none, and the call's numbers, all 0 where it refused.
+
+// A load's count of stores, a picture's count of reads, a key's count of kept bytes.
+#[repr(C)]
+pub struct Answer {
+    pub refusal: u32,
+    pub count: u32,
+}
+
+// A yes (1) or a no (0).
+#[repr(C)]
+pub struct YesAnswer {
+    pub refusal: u32,
+    pub yes: u32,
+}
+
+// The sampling flag, and the allocation extent.
+#[repr(C)]
+pub struct SamplingAnswer {
+    pub refusal: u32,
+    pub flag: u32,
+    pub width: u32,
+    pub height: u32,
+}

@@ -1,0 +1,58 @@
+// The tile record, with the names of rdp.rs. Its numbers arrive wide, so that one past its range is refused and never
+// wrapped.
+ghost use mathlib.Core.Path.{_≡_};
+ghost use Rattle.rules.specs.Tile.{loadFieldsOutside, tileOutside, modeOutside, laneOutside};
+ghost use Rattle.rdp.specs.View.{tileOf};
+use crate::units::LineWords;
+use crate::units::WordAddr;
+
+pub struct TileDescriptor {
+    pub fmt: u32,
+    pub siz: u32,
+    pub palette: u32,
+    pub cms: u32,
+    pub cmt: u32,
+    pub masks: u32,
+    pub maskt: u32,
+    pub line: LineWords,
+    pub tmem_addr: WordAddr,
+    pub width: u32,
+    pub height: u32,
+}
+
+impl TileDescriptor {
+    // One of the four fields that a load takes is outside its range.
+    pub fn load_fields_outside(self) -> bool
+        ensures { λ r. ⌜ r ≡ loadFieldsOutside (tileOf self) ⌝ }
+    {
+        (7 < self.fmt) | (3 < self.siz) | (511 < self.line.0) | (511 < self.tmem_addr.0)
+    }
+
+    // A field is outside its range.
+    pub fn outside(self) -> bool
+        ensures { λ r. ⌜ r ≡ tileOutside (tileOf self) ⌝ }
+    {
+        self.load_fields_outside()
+            | (15 < self.palette)
+            | (3 < self.cms)
+            | (3 < self.cmt)
+            | (15 < self.masks)
+            | (15 < self.maskt)
+            | (1024 < self.width)
+            | (1024 < self.height)
+    }
+}
+
+// The mode is none of 0 to 3.
+pub fn mode_outside(mode: u32) -> bool
+    ensures { λ r. ⌜ r ≡ modeOutside mode ⌝ }
+{
+    3 < mode
+}
+
+// The lane is none of 0 to 3.
+pub fn lane_outside(lane: u32) -> bool
+    ensures { λ r. ⌜ r ≡ laneOutside lane ⌝ }
+{
+    3 < lane
+}

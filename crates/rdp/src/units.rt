@@ -1,0 +1,31 @@
+// Word addresses, line counts in words and byte addresses, kept apart. A word is eight bytes: the eightfold step is the
+// only way from one to the other.
+ghost use mathlib.Core.Path.{_≡_};
+ghost use Prim.Native.Nat.{_*_};
+
+// An address in 64-bit words.
+pub struct WordAddr(pub u32);
+
+// The length of a line, in 64-bit words.
+pub struct LineWords(pub u32);
+
+// An address in bytes, not yet wrapped at the bank's end.
+pub struct ByteAddr(pub usize);
+
+impl WordAddr {
+    // The byte at which the word starts.
+    pub fn bytes(self) -> ByteAddr
+        ensures { λ r. ⌜ r .0 ≡ 8 * self .0 ⌝ }
+    {
+        ByteAddr(8 * self.0 as usize)
+    }
+}
+
+impl LineWords {
+    // The byte at which the next line starts, counted from this one's first.
+    pub fn bytes(self) -> ByteAddr
+        ensures { λ r. ⌜ r .0 ≡ 8 * self .0 ⌝ }
+    {
+        ByteAddr(8 * self.0 as usize)
+    }
+}

@@ -1,0 +1,10 @@
+-- Laws of the definitions, which the crates above cite.
+pub mod Computed
+pub mod Tables
+pub mod Readings
+pub mod Keys
+pub mod Over
+pub mod Maps
+pub mod Loads
+pub mod Refused
+pub mod Worked

@@ -1,0 +1,16 @@
+-- The worked examples of document 01 hold, every row of the table: antt computes both sides.
+use lib.Dec.{T}
+use Rattle.rules.specs.Base.{tab, tabFrom, concat, mem, any, distinct}
+use Rattle.rules.specs.Reading.{trail, given, andThen, prepend, upTo}
+use Rattle.rules.specs.Texdec.{accepted, acceptedDirect, formatOf}
+use Rattle.rules.specs.Sampling.{flag, texels}
+use Rattle.rules.specs.Load.{stored, list4, splitStores, wholeStores, wordStores, blockStores, tlutStores, hardwareStores, rowStores}
+use Rattle.rules.specs.Picture.{picture, plain, plainRow, lookup, lookupRow, texel, paletted, direct}
+use Rattle.rules.specs.Key.{key, keyOf, kept, keptCount}
+use Rattle.rules.specs.Refusal.{first, settle, call}
+use Rattle.rules.specs.Lister.{recordTile, lineOf, recordLine, lowDigits, reversed, decimal, lineText, listing}
+use Rattle.rules.specs.Worked.{table, allSame}
+
+pub worked : T (allSame table)
+unfolding table tab tabFrom concat mem any distinct trail given andThen prepend upTo accepted acceptedDirect formatOf flag texels stored list4 splitStores wholeStores wordStores blockStores tlutStores hardwareStores rowStores picture plain plainRow lookup lookupRow texel paletted direct key keyOf kept keptCount first settle call recordTile lineOf recordLine lowDigits reversed decimal lineText listing
+worked = tt

@@ -1,0 +1,61 @@
+-- Lists, choices, bits and maps: the words that every rule uses.
+use mathlib.Core.Bool.{Bool, true, false, cond, _&&_, _||_}
+use mathlib.Core.List.{List, [], _∷_, _++_}
+use Prim.Native.Nat.{ℕ, zero, suc, _+_, _/_, _%_, _^_}
+use lib.Bits.{bitOr}
+use lib.Dec.{eqb}
+use lib.ListN.{length, getD, set, drop}
+
+-- a number for a yes or a no
+abbrev pub one : Bool → ℕ
+one b = cond b 1 0
+
+-- n is odd
+abbrev pub odd : ℕ → Bool
+odd n = eqb (n % 2) 1
+
+-- f i, f (i + 1), .. n of them
+unfoldable pub tabFrom : {A : Type 0} → ℕ → ℕ → (ℕ → A) → List A
+tabFrom i zero f = []
+tabFrom i (suc n) f = f i ∷ tabFrom (suc i) n f
+
+-- f 0, f 1, .. f (n - 1)
+unfoldable pub tab : {A : Type 0} → ℕ → (ℕ → A) → List A
+tab n f = tabFrom 0 n f
+
+-- the lists of a list, one after the other
+unfoldable pub concat : {A : Type 0} → List (List A) → List A
+concat [] = []
+concat (l ∷ ls) = l ++ concat ls
+
+-- a is in the list
+unfoldable pub mem : ℕ → List ℕ → Bool
+mem a [] = false
+mem a (x ∷ l) = eqb a x || mem a l
+
+-- f holds of something in the list
+unfoldable pub any : {A : Type 0} → (A → Bool) → List A → Bool
+any f [] = false
+any f (x ∷ l) = f x || any f l
+
+-- the number of addresses below n that are in l
+unfoldable pub distinct : ℕ → List ℕ → ℕ
+distinct zero l = 0
+distinct (suc n) l = one (mem n l) + distinct n l
+
+-- new written over the front of old: "the surplus keeps its bytes"
+unfoldable pub over : List ℕ → List ℕ → List ℕ
+over new old = new ++ drop (length new) old
+
+-- "Maps: address a is bit a mod 8 of byte a div 8."
+unfoldable pub isMarked : List ℕ → ℕ → Bool
+isMarked map a = odd (getD map (a / 8) 0 / 2 ^ (a % 8))
+
+-- the map with address a marked as well
+unfoldable pub marked : List ℕ → ℕ → List ℕ
+marked map a = set map (a / 8) (bitOr (getD map (a / 8) 0) (2 ^ (a % 8)))
+
+-- the map with every address of a list marked as well
+unfoldable pub marks : List ℕ → List ℕ → List ℕ
+marks map [] = map
+marks map (a ∷ l) = marks (marked map a) l

@@ -1,0 +1,164 @@
+-- Every public call, on every input: its refusals in order, its answer, and the lent buffers as it leaves them.
+use mathlib.Core.Bool.{Bool, true, false, cond, not, _||_}
+use mathlib.Core.List.{List, [], _∷_}
+use Prim.Native.Nat.{ℕ, _*_, _/_}
+use lib.Dec.{eqb, ltb}
+use lib.ListN.{length}
+use Rattle.rules.specs.Base.{one, over}
+use Rattle.rules.specs.Refusal.{Test, _if_, Outcome, call}
+use Rattle.rules.specs.Tile.{Tile, bankSize, mapSize, laneMapSize, loadFieldsOutside, tileOutside, modeOutside, laneOutside}
+use Rattle.rules.specs.Texdec.{accepted, stepKnows}
+use Rattle.rules.specs.Sampling.{flag, extentWidth, extentHeight, lookupTexels}
+use Rattle.rules.specs.Load.{Store, loadTile, blockStores, tileStores, tlutStores, stored, written}
+use Rattle.rules.specs.Reading.{Reading, given, trail, encoded}
+use Rattle.rules.specs.Picture.{plain, lookup}
+use Rattle.rules.specs.Reach.{reachMap, hasLoad, laneMap}
+use Rattle.rules.specs.Key.{key, keptCount}
+
+-- The tests, by their numbers.
+
+-- "a lent bank or key is not 4,096 bytes, a written or reach map not 512, or a lane map not 32"
+abbrev pub notBytes : ℕ → List ℕ → Bool
+notBytes n lent = not (eqb (length lent) n)
+
+-- "a tile field is outside its range"
+abbrev pub badTile : Tile → Test
+badTile t = 2 if tileOutside t
+
+-- "mode or lane is above 3"
+abbrev pub badMode : ℕ → Test
+badMode mode = 3 if modeOutside mode
+
+abbrev pub badLane : ℕ → Test
+badLane lane = 3 if laneOutside lane
+
+-- "a load number or the source's length is outside its range": "image size 0..3; block words 0..2,048 and dxt 0..4,095;
+-- tile rows 0..1,024 and words a row 0..512; TLUT count 0..1,024 and rows 1..1,024; source stride 0..65,535. The loaded
+-- source has 0 to 65,536 bytes"
+abbrev pub sourceOutside : List ℕ → ℕ → Bool
+sourceOutside src image = ltb 65536 (length src) || ltb 3 image
+
+abbrev pub blockOutside : ℕ → ℕ → Bool
+blockOutside dxt words = ltb 4095 dxt || ltb 2048 words
+
+abbrev pub tileLoadOutside : ℕ → ℕ → ℕ → Bool
+tileLoadOutside rows words stride = ltb 1024 rows || ltb 512 words || ltb 65535 stride
+
+abbrev pub tlutOutside : ℕ → ℕ → ℕ → Bool
+tlutOutside count rows stride = ltb 1024 count || eqb rows 0 || ltb 1024 rows || ltb 65535 stride
+
+-- "the pair is not accepted (pictures, lookups, keys)"
+abbrev pub badPair : Tile → ℕ → Test
+badPair t mode = 5 if not (accepted mode (t .fmt) (t .siz))
+
+-- "the texel step meets a pair it does not know"
+abbrev pub unknownPair : Tile → ℕ → Test
+unknownPair t mode = 9 if not (stepKnows mode (t .fmt) (t .siz))
+
+-- Loads: bank and written map are lent, and the count of stores is answered.
+abbrev pub loadTests : List ℕ → List ℕ → List ℕ → Tile → ℕ → Bool → List Test
+loadTests bank map src t image outside =
+    (1 if notBytes bankSize bank)
+    ∷ (1 if notBytes mapSize map)
+    ∷ (2 if loadFieldsOutside t)
+    ∷ (4 if sourceOutside src image)
+    ∷ (4 if outside)
+    ∷ []
+
+abbrev pub loaded : List Test → List Store → List ℕ → List ℕ → List ℕ → Outcome
+loaded tests l bank map src =
+    call tests (length l ∷ []) (stored src l bank ∷ written l map ∷ []) (bank ∷ map ∷ [])
+
+unfoldable pub blockCall : List ℕ → List ℕ → List ℕ → Tile → ℕ → ℕ → ℕ → Outcome
+blockCall bank map src t image dxt words =
+    loaded (loadTests bank map src t image (blockOutside dxt words)) (blockStores (loadTile t) image dxt words) bank map src
+
+unfoldable pub tileCall : List ℕ → List ℕ → List ℕ → Tile → ℕ → ℕ → ℕ → ℕ → Outcome
+tileCall bank map src t image rows words stride =
+    loaded (loadTests bank map src t image (tileLoadOutside rows words stride)) (tileStores (loadTile t) image rows words stride) bank map src
+
+unfoldable pub tlutCall : List ℕ → List ℕ → List ℕ → Tile → ℕ → ℕ → ℕ → ℕ → Outcome
+tlutCall bank map src t image count rows stride =
+    loaded (loadTests bank map src t image (tlutOutside count rows stride)) (tlutStores (loadTile t) image count rows stride) bank map src
+
+-- The sampling record: flag and allocation extent.
+abbrev pub samplingTests : Tile → ℕ → List Test
+samplingTests t mode = badTile t ∷ badMode mode ∷ []
+
+unfoldable pub samplingCall : Tile → ℕ → Outcome
+samplingCall t mode =
+    call (samplingTests t mode) (one (flag t mode) ∷ extentWidth t mode ∷ extentHeight t mode ∷ []) [] []
+
+-- Reach, has-load and the lane check.
+abbrev pub mapTests : List ℕ → Tile → ℕ → List Test
+mapTests map t mode = (1 if notBytes mapSize map) ∷ samplingTests t mode
+
+unfoldable pub reachCall : Tile → ℕ → List ℕ → Outcome
+reachCall t mode map = call (mapTests map t mode) [] (reachMap t mode ∷ []) (map ∷ [])
+
+unfoldable pub hasLoadCall : Tile → ℕ → List ℕ → Outcome
+hasLoadCall t mode map = call (mapTests map t mode) (one (hasLoad t mode map) ∷ []) [] []
+
+abbrev pub laneTests : List ℕ → List ℕ → List Test
+laneTests bank map = (1 if notBytes bankSize bank) ∷ (1 if notBytes laneMapSize map) ∷ []
+
+unfoldable pub laneCall : List ℕ → List ℕ → Outcome
+laneCall bank map = call (laneTests bank map) [] (laneMap bank ∷ []) (map ∷ [])
+
+-- Pictures. The tests before the buffers', the buffers' own, and number 9 last.
+abbrev pub pairTests : Tile → ℕ → ℕ → List Test → List Test
+pairTests t mode lane l = badTile t ∷ badMode mode ∷ badLane lane ∷ badPair t mode ∷ l
+
+-- "the picture buffer is shorter than 4 bytes a texel"
+abbrev pub shortPicture : ℕ → List ℕ → Test
+shortPicture count out = 6 if ltb (length out) (4 * count)
+
+-- "the trail is shorter than the count of reads"; two bytes an address, "an odd last byte is left unused"
+abbrev pub shortTrail : Reading → List ℕ → List ℕ → Test
+shortTrail r bank seen = 7 if ltb (length seen / 2) (length (trail r bank))
+
+abbrev pub pictureTests : List ℕ → Tile → ℕ → ℕ → ℕ → List ℕ → List Test
+pictureTests bank t mode lane count out =
+    (1 if notBytes bankSize bank) ∷ pairTests t mode lane (shortPicture count out ∷ unknownPair t mode ∷ [])
+
+abbrev pub observedTests : List ℕ → Tile → ℕ → ℕ → ℕ → Reading → List ℕ → List ℕ → List Test
+observedTests bank t mode lane count r out seen =
+    (1 if notBytes bankSize bank)
+    ∷ pairTests t mode lane (shortPicture count out ∷ shortTrail r bank seen ∷ unknownPair t mode ∷ [])
+
+-- the picture of a reading alone, and with its trail; the count of reads is answered
+unfoldable pub pictureCall : Reading → ℕ → List ℕ → Tile → ℕ → ℕ → List ℕ → Outcome
+pictureCall r count bank t mode lane out =
+    call (pictureTests bank t mode lane count out) (length (trail r bank) ∷ []) (over (given r bank) out ∷ []) (out ∷ [])
+
+unfoldable pub observedCall : Reading → ℕ → List ℕ → Tile → ℕ → ℕ → List ℕ → List ℕ → Outcome
+observedCall r count bank t mode lane out seen =
+    call (observedTests bank t mode lane count r out seen)
+    (length (trail r bank) ∷ [])
+    (over (given r bank) out ∷ over (encoded (trail r bank)) seen ∷ [])
+    (out ∷ seen ∷ [])
+
+abbrev pub plainTexels : Tile → ℕ
+plainTexels t = t .width * t .height
+
+-- "Either picture can be asked for of any tile"
+abbrev pub sampleTileCall : List ℕ → Tile → ℕ → ℕ → List ℕ → Outcome
+sampleTileCall bank t mode lane out = pictureCall (plain t mode lane) (plainTexels t) bank t mode lane out
+
+abbrev pub sampleTileObservedCall : List ℕ → Tile → ℕ → ℕ → List ℕ → List ℕ → Outcome
+sampleTileObservedCall bank t mode lane out seen = observedCall (plain t mode lane) (plainTexels t) bank t mode lane out seen
+
+abbrev pub samplingLookupCall : List ℕ → Tile → ℕ → ℕ → List ℕ → Outcome
+samplingLookupCall bank t mode lane out = pictureCall (lookup t mode lane) lookupTexels bank t mode lane out
+
+abbrev pub samplingLookupObservedCall : List ℕ → Tile → ℕ → ℕ → List ℕ → List ℕ → Outcome
+samplingLookupObservedCall bank t mode lane out seen = observedCall (lookup t mode lane) lookupTexels bank t mode lane out seen
+
+-- The key: bank and key are lent, and the kept count is answered.
+abbrev pub keyTests : List ℕ → Tile → ℕ → ℕ → List ℕ → List Test
+keyTests bank t mode lane out =
+    (1 if notBytes bankSize bank) ∷ (1 if notBytes bankSize out) ∷ pairTests t mode lane (unknownPair t mode ∷ [])
+
+unfoldable pub keyCall : List ℕ → Tile → ℕ → ℕ → List ℕ → Outcome
+keyCall bank t mode lane out =
+    call (keyTests bank t mode lane out) (keptCount t mode lane bank ∷ []) (key t mode lane bank ∷ []) (out ∷ [])

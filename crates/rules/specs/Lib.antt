@@ -1,0 +1,14 @@
+-- Document 01 as definitions, in its order. Every contract of every crate cites these; no other crate defines meaning.
+pub mod Base
+pub mod Tile
+pub mod Texdec
+pub mod Sampling
+pub mod Load
+pub mod Reading
+pub mod Picture
+pub mod Reach
+pub mod Key
+pub mod Refusal
+pub mod Calls
+pub mod Lister
+pub mod Worked

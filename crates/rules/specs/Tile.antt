@@ -1,0 +1,65 @@
+-- The tile record, and the ranges of all numbers: "Numbers that bound everything".
+use mathlib.Core.Bool.{Bool, true, false, cond, _||_}
+use Prim.Native.Nat.{ℕ}
+use lib.Dec.{ltb}
+
+-- "Bank 4,096 bytes; palette base 2,048. MASK8 and MASK16 are taken as 4,095 and 2,047."
+abbrev pub bankSize : ℕ
+bankSize = 4096
+
+abbrev pub paletteBase : ℕ
+paletteBase = 2048
+
+abbrev pub mask8 : ℕ
+mask8 = 4095
+
+abbrev pub mask16 : ℕ
+mask16 = 2047
+
+-- the bytes of a written or reach map, and of a lane map
+abbrev pub mapSize : ℕ
+mapSize = 512
+
+abbrev pub laneMapSize : ℕ
+laneMapSize = 32
+
+pub record Tile : Type 0 where
+  pub fmt : ℕ
+  pub siz : ℕ
+  pub palette : ℕ
+  pub cms : ℕ
+  pub cmt : ℕ
+  pub masks : ℕ
+  pub maskt : ℕ
+  pub line : ℕ
+  pub tmem-addr : ℕ
+  pub width : ℕ
+  pub height : ℕ
+
+-- width and height go up to this
+abbrev pub sideLimit : ℕ
+sideLimit = 1024
+
+-- "Of the tile a load takes fmt, siz, line and tmem_addr alone": one of them is outside its range
+abbrev pub loadFieldsOutside : Tile → Bool
+loadFieldsOutside t = ltb 7 (t .fmt) || ltb 3 (t .siz) || ltb 511 (t .line) || ltb 511 (t .tmem-addr)
+
+-- "Tile: fmt 0..7, siz 0..3, palette 0..15, cms and cmt 0..3, masks and maskt 0..15, line and tmem_addr 0..511, width
+-- and height 0..1,024": a field is outside its range
+abbrev pub tileOutside : Tile → Bool
+tileOutside t =
+    loadFieldsOutside t
+    || ltb 15 (t .palette)
+    || ltb 3 (t .cms)
+    || ltb 3 (t .cmt)
+    || ltb 15 (t .masks)
+    || ltb 15 (t .maskt)
+    || ltb sideLimit (t .width)
+    || ltb sideLimit (t .height)
+
+-- "Mode (tlut) 0..3, lane 0..3."
+abbrev pub modeOutside : ℕ → Bool
+modeOutside mode = ltb 3 mode
+
+abbrev pub laneOutside : ℕ → Bool
+laneOutside lane = ltb 3 lane
