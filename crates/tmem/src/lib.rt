@@ -1,0 +1,2 @@
+// Texture memory, as tmem.rs has it.
+mod map;

@@ -1,0 +1,23 @@
+// Maps of bits: address a is bit a mod 8 of byte a div 8.
+ghost use mathlib.Core.Path.{_≡_};
+ghost use Prim.Native.Nat.{_/_, _<_};
+ghost use lib.ListN.{length};
+ghost use Rattle.rules.specs.Base.{marked, isMarked};
+
+// The address's bit is set.
+pub(crate) fn mark_at(map: &mut [u8], at: usize)
+    requires { ⌜ at / 8 < length (now map) ⌝ }
+    ensures { λ _. ⌜ now (map .exit) ≡ marked (now (map .entry)) at ⌝ }
+{
+    let i = at / 8;
+    map[i] = map[i] | 1u8 << at % 8;
+}
+
+// Whether it is set.
+pub(crate) fn is_marked(map: &[u8], at: usize) -> bool
+    requires { ⌜ at / 8 < length (now map) ⌝ }
+    ensures { λ r. ⌜ r ≡ isMarked (now (map .entry)) at ⌝ }
+{
+    let i = at / 8;
+    (map[i] >> at % 8) % 2 == 1
+}
