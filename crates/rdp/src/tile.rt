@@ -1,8 +1,11 @@
 // The tile record, with the names of rdp.rs. Its numbers arrive wide, so that one past its range is refused and never
 // wrapped.
 ghost use mathlib.Core.Path.{_≡_};
+ghost use Rattle.rules.specs.Calls.{samplingTests};
+ghost use Rattle.rules.specs.Refusal.{first};
 ghost use Rattle.rules.specs.Tile.{loadFieldsOutside, tileOutside, modeOutside, laneOutside};
 ghost use Rattle.rdp.specs.View.{tileOf};
+use crate::refusal;
 use crate::units::LineWords;
 use crate::units::WordAddr;
 
@@ -55,4 +58,17 @@ pub fn lane_outside(lane: u32) -> bool
     ensures { λ r. ⌜ r ≡ laneOutside lane ⌝ }
 {
     3 < lane
+}
+
+// The refusal of a call on a tile in a mode: 2, then 3.
+pub fn tile_and_mode_refusal(tile: TileDescriptor, mode: u32) -> u32
+    ensures { λ r. ⌜ r ≡ first (samplingTests (tileOf tile) mode) ⌝ }
+{
+    if tile.outside() {
+        return refusal::TILE;
+    }
+    if mode_outside(mode) {
+        return refusal::MODE_OR_LANE;
+    }
+    0
 }

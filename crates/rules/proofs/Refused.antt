@@ -3,6 +3,8 @@ use mathlib.Core.Path.{_≡_, refl, ap, sym, _∙_}
 use mathlib.Core.Bool.{Bool, true, false, cond}
 use mathlib.Core.List.{List, [], _∷_}
 use Prim.Native.Nat.{ℕ, zero, suc}
+use mir.Val.{boolByte}
+use Rattle.rules.specs.Base.{one}
 use Rattle.rules.specs.Refusal.{Test, first, Outcome, zeros, settle, call}
 
 pub first-here : (t : Test) (l : List Test) → t .fails ≡ true → first (t ∷ l) ≡ t .number
@@ -50,6 +52,11 @@ pub done-is : (tests : List Test) (numbers : List ℕ) (left lent : List (List �
     → record { refusal = 0; numbers = numbers; buffers = left } ≡ call tests numbers left lent
 unfolding call settle
 done-is tests numbers left lent e = ap (λ k. settle k numbers left lent) (sym e)
+
+-- a yes or no that was cast to a number
+pub one-byte : (b : Bool) → boolByte b ≡ one b
+one-byte true = refl
+one-byte false = refl
 
 -- Two answers that a contract allows are the same: every public contract says that its answer, with the buffers that the
 -- call leaves, equals a definition of the inputs.
