@@ -17,7 +17,8 @@ impl WordAddr {
     pub fn bytes(self) -> ByteAddr
         ensures { λ r. ⌜ r .0 ≡ 8 * self .0 ⌝ }
     {
-        ByteAddr(8 * self.0 as usize)
+        let word = self.0;
+        ByteAddr(8 * word as usize)
     }
 }
 
@@ -26,6 +27,7 @@ impl LineWords {
     pub fn bytes(self) -> ByteAddr
         ensures { λ r. ⌜ r .0 ≡ 8 * self .0 ⌝ }
     {
-        ByteAddr(8 * self.0 as usize)
+        let words = self.0;
+        ByteAddr(8 * words as usize)
     }
 }
