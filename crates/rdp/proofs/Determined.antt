@@ -1,0 +1,42 @@
+-- Two answers that a public contract allows are the same, and so are the buffers left: every public call's contract says
+-- that its answer, seen with the buffers, equals one outcome of the inputs. (A contract `r ≡ definition` needs only
+-- `Rattle.rules.proofs.Refused.determined`.)
+use mathlib.Core.Path.{_≡_, ap}
+use mathlib.Core.List.{List}
+use Prim.Native.Nat.{ℕ}
+use lib.ListN.{getD}
+use Rattle.rules.specs.Refusal.{Outcome}
+use Rattle.rules.proofs.Refused.{determined}
+use Rattle.rdp.specs.declared.answer.Answer.{Answer}
+use Rattle.rdp.specs.declared.answer.YesAnswer.{YesAnswer}
+use Rattle.rdp.specs.declared.answer.SamplingAnswer.{SamplingAnswer}
+use Rattle.rdp.specs.View.{answered, yesAnswered, samplingAnswered, refusalAnswered}
+
+-- number k of an outcome
+number : ℕ → Outcome → ℕ
+number k o = getD (o .numbers) k 0
+
+pub answered-determined : (o : Outcome) (r s : Answer) (l m : List (List ℕ)) → answered r l ≡ o → answered s m ≡ o
+    → (r ≡ s) × (l ≡ m)
+unfolding number
+answered-determined o r s l m p q =
+    let e : answered r l ≡ answered s m = determined p q in
+    ((λ i. record { refusal = e i .refusal; count = number 0 (e i) }), ap (λ o. o .buffers) e)
+
+pub yes-determined : (o : Outcome) (r s : YesAnswer) → yesAnswered r ≡ o → yesAnswered s ≡ o → r ≡ s
+unfolding number
+yes-determined o r s p q =
+    let e : yesAnswered r ≡ yesAnswered s = determined p q in
+    λ i. record { refusal = e i .refusal; yes = number 0 (e i) }
+
+pub sampling-determined : (o : Outcome) (r s : SamplingAnswer) → samplingAnswered r ≡ o → samplingAnswered s ≡ o → r ≡ s
+unfolding number
+sampling-determined o r s p q =
+    let e : samplingAnswered r ≡ samplingAnswered s = determined p q in
+    λ i. record { refusal = e i .refusal; flag = number 0 (e i); width = number 1 (e i); height = number 2 (e i) }
+
+pub refusal-determined : (o : Outcome) (r s : ℕ) (l m : List (List ℕ)) → refusalAnswered r l ≡ o → refusalAnswered s m ≡ o
+    → (r ≡ s) × (l ≡ m)
+refusal-determined o r s l m p q =
+    let e : refusalAnswered r l ≡ refusalAnswered s m = determined p q in
+    (ap (λ o. o .refusal) e, ap (λ o. o .buffers) e)
