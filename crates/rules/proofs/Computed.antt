@@ -11,11 +11,11 @@ abbrev pub all : ℕ → (ℕ → Bool) → Bool
 all zero f = true
 all (suc n) f = f n && all n f
 
-both-left : (a b : Bool) → T (a && b) → T a
+pub both-left : (a b : Bool) → T (a && b) → T a
 both-left true b t = tt
 both-left false b t = t
 
-both-right : (a b : Bool) → T (a && b) → T b
+pub both-right : (a b : Bool) → T (a && b) → T b
 both-right true b t = t
 both-right false b t = absurd t
 

@@ -1,0 +1,4 @@
+-- What the proofs of texdec cite: the nibble's bound, the pairs by their sizes, and a table's rule.
+pub mod Nibbles
+pub mod Sizes
+pub mod Table

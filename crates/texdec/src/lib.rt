@@ -1,0 +1,6 @@
+// The formats of texdec.rs: which pairs are accepted, and how their bytes become four channels.
+mod channel;
+pub mod entry;
+pub mod format;
+pub mod ia8;
+pub mod nibble;
