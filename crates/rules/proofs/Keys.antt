@@ -33,6 +33,21 @@ kept-out l b a p =
     List·getD-eq-default (tab 4096 (λ a. cond (mem a l) (getD b a 0) 0)) 0
     (rw (length-tab 4096 (λ a. cond (mem a l) (getD b a 0) 0)) p)
 
+-- the key's byte at an address: the bank's where the reading reads it, and 0 at every other
+pub key-byte : (r : Reading) (b : List ℕ) (a : ℕ) → length b ≡ 4096 → getD (keyOf r b) a 0 ≡ cond (mem a (trail r b)) (getD b a 0) 0
+unfolding keyOf byteOf
+key-byte r b a n = go (decLt a 4096)
+  where
+    none : (t : Bool) (v : ℕ) → v ≡ 0 → cond t v 0 ≡ 0
+    none true v e = e
+    none false v e = refl
+
+    go : Dec (a < 4096) → getD (kept (trail r b) b) a 0 ≡ cond (mem a (trail r b)) (getD b a 0) 0
+    go (yes p) = kept-in (trail r b) b a p
+    go (no p) =
+        kept-out (trail r b) b a (omega arith)
+        ∙ sym (none (mem a (trail r b)) (getD b a 0) (List·getD-eq-default b 0 (omega arith)))
+
 -- a kept address has the bank's byte
 kept-at : (l b : List ℕ) (a : ℕ) → length b ≡ 4096 → mem a l ≡ true → getD (kept l b) a 0 ≡ getD b a 0
 unfolding byteOf

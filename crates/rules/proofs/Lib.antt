@@ -6,5 +6,6 @@ pub mod Keys
 pub mod Over
 pub mod Maps
 pub mod Loads
+pub mod Formats
 pub mod Refused
 pub mod Worked

@@ -1,8 +1,8 @@
 -- The key: the bank with every byte that its picture reads kept and all others zero.
 use mathlib.Core.Bool.{Bool, true, false, cond}
 use mathlib.Core.List.{List}
-use Prim.Native.Nat.{ℕ}
-use lib.ListN.{getD}
+use Prim.Native.Nat.{ℕ, _-_, _*_, _<_}
+use lib.ListN.{getD, set, take, drop}
 use Rattle.rules.specs.Base.{tab, mem, distinct}
 use Rattle.rules.specs.Reading.{Reading, trail}
 use Rattle.rules.specs.Tile.{Tile, bankSize}
@@ -23,3 +23,15 @@ key t mode lane bank = keyOf (picture t mode lane) bank
 -- "its kept count: the number of distinct addresses that picture reads"
 unfoldable pub keptCount : Tile → ℕ → ℕ → List ℕ → ℕ
 keptCount t mode lane bank = distinct bankSize (trail (picture t mode lane) bank)
+
+-- "flipping all eight bits of any one kept byte"
+unfoldable pub flipped : ℕ → List ℕ → List ℕ
+flipped a bank = set bank a (255 - getD bank a 0)
+
+-- texel i of a picture: its four channels
+unfoldable pub texelAt : ℕ → List ℕ → List ℕ
+texelAt i picture = take 4 (drop (4 * i) picture)
+
+-- every element is a byte
+unfoldable pub Bytes : List ℕ → Type 0
+Bytes l = (i : ℕ) → getD l i 0 < 256

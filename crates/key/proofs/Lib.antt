@@ -1,0 +1,4 @@
+pub mod Lift
+pub mod Flips
+pub mod Inside
+pub mod Demand3
