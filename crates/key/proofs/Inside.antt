@@ -40,7 +40,7 @@ direct-below i8 base palette swap rel x b = omega arith
 direct-below unknown base palette swap rel x b = tt
 
 -- an index is below 256
-index-byte : (t : Tile) (x v : ℕ) → t .palette ≤ 15 → v < 256 → index t x v < 256
+pub index-byte : (t : Tile) (x v : ℕ) → t .palette ≤ 15 → v < 256 → index t x v < 256
 index-byte t x v p h = go (eqb (t .siz) 0) (eqb (cond (eqb (t .fmt) 1) 0 x % 2) 0)
   where
     go : (s u : Bool) → cond s (t .palette * 16 + cond u (v / 16) (v % 16)) v < 256

@@ -2,6 +2,7 @@
 // only way from one to the other.
 ghost use mathlib.Core.Path.{_≡_};
 ghost use Prim.Native.Nat.{_*_};
+ghost use Rattle.rules.specs.Picture.{swapOdd};
 
 // An address in 64-bit words.
 pub struct WordAddr(pub u32);
@@ -30,4 +31,11 @@ impl LineWords {
         let words = self.0;
         ByteAddr(8 * words as usize)
     }
+}
+
+// On odd rows the two halves of each word change places.
+pub fn swap_odd_line(addr: usize, odd: bool) -> usize
+    ensures { λ r. ⌜ r ≡ swapOdd odd addr ⌝ }
+{
+    if odd { addr ^ 4 } else { addr }
 }

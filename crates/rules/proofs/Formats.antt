@@ -1,45 +1,51 @@
 -- A pair that is accepted is known to the texel step, in all four modes; and what a texel of a known pair reads and gives.
-use mathlib.Core.Path.{_≡_, refl, sym}
-use mathlib.Core.Bool.{Bool, true, false, _&&_, _||_, true≢false}
+use mathlib.Core.Path.{_≡_, refl, ap, sym, _∙_}
+use mathlib.Core.Bool.{Bool, true, false, cond, _&&_, _||_, true≢false}
 use mathlib.Core.List.{List, [], _∷_}
-use Prim.Native.Nat.{ℕ, _*_, _<_}
-use lib.Dec.{eqb, leb}
+use Prim.Native.Nat.{ℕ, _+_, _*_, _<_}
+use lib.Dec.{eqb, ltb, leb}
 use lib.ListN.{length}
 use borrow.Author.Tests.{eqb-true, lt-leb}
 use Rattle.rules.specs.Base.{any}
 use Rattle.rules.specs.Tile.{Tile}
 use Rattle.rules.specs.Texdec.{Format, rgba16, rgba32, ci4, ci8, ci16, ia4, ia8, ia16, i4, i8, unknown, known, formatOf, tlut, Pair, directPairs, acceptedDirect, accepted, stepKnows}
 use Rattle.rules.specs.Reading.{Reading, given, trail}
-use Rattle.rules.specs.Picture.{direct, paletted, texel, formatReads, readsEach}
+use Rattle.rules.specs.Sampling.{isRgba32}
+use Rattle.rules.specs.Picture.{address, direct, texel, formatReads}
 
 both-true : (a b : Bool) → (a && b) ≡ true → (a ≡ true) × (b ≡ true)
 both-true true b h = (refl, h)
 both-true false b h = absurd (true≢false (sym h))
 
--- the format of every pair of a list is known
-abbrev allKnown : List Pair → Bool
-allKnown [] = true
-allKnown (p ∷ l) = known (formatOf (p .fmt) (p .siz)) && allKnown l
+-- a test holds of every pair of a list
+abbrev pub everyPair : (ℕ → ℕ → Bool) → List Pair → Bool
+everyPair g [] = true
+everyPair g (p ∷ l) = g (p .fmt) (p .siz) && everyPair g l
 
-listed-known : (fmt siz : ℕ) (l : List Pair) → allKnown l ≡ true → any (λ p. eqb fmt (p .fmt) && eqb siz (p .siz)) l ≡ true
-    → known (formatOf fmt siz) ≡ true
+listed : (g : ℕ → ℕ → Bool) (fmt siz : ℕ) (l : List Pair) → everyPair g l ≡ true
+    → any (λ p. eqb fmt (p .fmt) && eqb siz (p .siz)) l ≡ true → g fmt siz ≡ true
 unfolding any
-listed-known fmt siz [] k h = absurd (true≢false (sym h))
-listed-known fmt siz (p ∷ l) k h =
-    go (eqb fmt (p .fmt) && eqb siz (p .siz)) refl h (both-true _ _ k) (listed-known fmt siz l)
+listed g fmt siz [] k h = absurd (true≢false (sym h))
+listed g fmt siz (p ∷ l) k h =
+    go (eqb fmt (p .fmt) && eqb siz (p .siz)) refl h (both-true _ _ k) (listed g fmt siz l)
   where
     go : (t : Bool) → (eqb fmt (p .fmt) && eqb siz (p .siz)) ≡ t → (t || any (λ p. eqb fmt (p .fmt) && eqb siz (p .siz)) l) ≡ true
-        → (known (formatOf (p .fmt) (p .siz)) ≡ true) × (allKnown l ≡ true)
-        → (allKnown l ≡ true → any (λ p. eqb fmt (p .fmt) && eqb siz (p .siz)) l ≡ true → known (formatOf fmt siz) ≡ true)
-        → known (formatOf fmt siz) ≡ true
+        → (g (p .fmt) (p .siz) ≡ true) × (everyPair g l ≡ true)
+        → (everyPair g l ≡ true → any (λ p. eqb fmt (p .fmt) && eqb siz (p .siz)) l ≡ true → g fmt siz ≡ true)
+        → g fmt siz ≡ true
     go true e h′ k′ ih =
         let q = both-true (eqb fmt (p .fmt)) (eqb siz (p .siz)) e in
         rw (eqb-true fmt (p .fmt) (q .0), eqb-true siz (p .siz) (q .1)) (k′ .0)
     go false e h′ k′ ih = ih (k′ .1) h′
 
+-- a test that antt computes at each accepted pair holds of every one
+pub of-direct : (g : ℕ → ℕ → Bool) → everyPair g directPairs ≡ true → (fmt siz : ℕ) → acceptedDirect fmt siz ≡ true → g fmt siz ≡ true
+unfolding acceptedDirect
+of-direct g k fmt siz h = listed g fmt siz directPairs k h
+
 pub direct-known : (fmt siz : ℕ) → acceptedDirect fmt siz ≡ true → known (formatOf fmt siz) ≡ true
-unfolding acceptedDirect formatOf
-direct-known fmt siz h = listed-known fmt siz directPairs refl h
+unfolding formatOf
+direct-known fmt siz h = of-direct (λ fmt siz. known (formatOf fmt siz)) refl fmt siz h
 
 -- without a lookup table a pair is accepted only from the list
 pub accepted-direct : (mode fmt siz : ℕ) → mode < 2 → accepted mode fmt siz ≡ true → acceptedDirect fmt siz ≡ true
@@ -75,3 +81,41 @@ direct-four ia16 base palette swap rel x b k = refl
 direct-four i4 base palette swap rel x b k = refl
 direct-four i8 base palette swap rel x b k = refl
 direct-four unknown base palette swap rel x b k = absurd (true≢false (sym k))
+
+-- The reads of a texel without a lookup table: two in each half of the bank for (0,3), one for sizes 0 and 1, else two.
+abbrev pub pairReads : ℕ → ℕ → ℕ
+pairReads fmt siz = cond (isRgba32 fmt siz) 4 (cond (ltb siz 2) 1 2)
+
+reads-pair : (fmt siz : ℕ) → acceptedDirect fmt siz ≡ true → formatReads (formatOf fmt siz) ≡ pairReads fmt siz
+unfolding formatOf
+reads-pair fmt siz h = eqb-true _ _ (of-direct (λ fmt siz. eqb (formatReads (formatOf fmt siz)) (pairReads fmt siz)) refl fmt siz h)
+
+-- the addresses, by their number
+unfoldable pub readsBy : ℕ → ℕ → Bool → ℕ → List ℕ
+readsBy n base swap rel =
+    let low : ℕ → ℕ = address 2048 base swap in
+    let at : ℕ → ℕ = address 4096 base swap in
+    cond (eqb n 4) (low rel ∷ low (rel + 1) ∷ (low rel + 2048) ∷ (low (rel + 1) + 2048) ∷ [])
+    (cond (eqb n 1) (at rel ∷ []) (at rel ∷ at (rel + 1) ∷ []))
+
+format-trail : (f : Format) (base palette : ℕ) (swap : Bool) (rel x : ℕ) (b : List ℕ) → known f ≡ true
+    → trail (direct f base palette swap rel x) b ≡ readsBy (formatReads f) base swap rel
+unfolding direct trail readsBy
+format-trail rgba16 base palette swap rel x b k = refl
+format-trail rgba32 base palette swap rel x b k = refl
+format-trail ci4 base palette swap rel x b k = refl
+format-trail ci8 base palette swap rel x b k = refl
+format-trail ci16 base palette swap rel x b k = refl
+format-trail ia4 base palette swap rel x b k = refl
+format-trail ia8 base palette swap rel x b k = refl
+format-trail ia16 base palette swap rel x b k = refl
+format-trail i4 base palette swap rel x b k = refl
+format-trail i8 base palette swap rel x b k = refl
+format-trail unknown base palette swap rel x b k = absurd (true≢false (sym k))
+
+-- what a direct texel of an accepted pair reads, whatever the bank holds
+pub direct-trail : (fmt siz base palette : ℕ) (swap : Bool) (rel x : ℕ) (b : List ℕ) → acceptedDirect fmt siz ≡ true
+    → trail (direct (formatOf fmt siz) base palette swap rel x) b ≡ readsBy (pairReads fmt siz) base swap rel
+direct-trail fmt siz base palette swap rel x b h =
+    format-trail (formatOf fmt siz) base palette swap rel x b (direct-known fmt siz h)
+    ∙ ap (λ n. readsBy n base swap rel) (reads-pair fmt siz h)

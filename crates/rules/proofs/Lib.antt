@@ -6,6 +6,8 @@ pub mod Keys
 pub mod Over
 pub mod Maps
 pub mod Loads
+pub mod Swaps
 pub mod Formats
 pub mod Refused
+pub mod Ranges
 pub mod Worked

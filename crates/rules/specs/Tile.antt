@@ -1,6 +1,6 @@
 -- The tile record, and the ranges of all numbers: "Numbers that bound everything".
 use mathlib.Core.Bool.{Bool, true, false, cond, _||_}
-use Prim.Native.Nat.{ℕ}
+use Prim.Native.Nat.{ℕ, _≤_}
 use lib.Dec.{ltb}
 
 -- "Bank 4,096 bytes; palette base 2,048. MASK8 and MASK16 are taken as 4,095 and 2,047."
@@ -56,6 +56,20 @@ tileOutside t =
     || ltb 15 (t .maskt)
     || ltb sideLimit (t .width)
     || ltb sideLimit (t .height)
+
+-- every field is inside its range
+pub record InRange (t : Tile) : Type 0 where
+  pub fmt : t .fmt ≤ 7
+  pub siz : t .siz ≤ 3
+  pub palette : t .palette ≤ 15
+  pub cms : t .cms ≤ 3
+  pub cmt : t .cmt ≤ 3
+  pub masks : t .masks ≤ 15
+  pub maskt : t .maskt ≤ 15
+  pub line : t .line ≤ 511
+  pub tmem-addr : t .tmem-addr ≤ 511
+  pub width : t .width ≤ sideLimit
+  pub height : t .height ≤ sideLimit
 
 -- "Mode (tlut) 0..3, lane 0..3."
 abbrev pub modeOutside : ℕ → Bool

@@ -4,3 +4,4 @@ pub mod entry;
 pub mod format;
 pub mod ia8;
 pub mod nibble;
+pub mod palette;

@@ -1,0 +1,47 @@
+-- Laws of noted addresses: they are noted list after list; and notes of what one direct texel reads, by its pair.
+use mathlib.Core.Path.{_≡_, refl, ap, sym, _∙_}
+use mathlib.Core.Bool.{Bool, true, false, cond, _||_}
+use mathlib.Core.List.{List, [], _∷_, _++_}
+use Prim.Native.Nat.{ℕ, zero, suc, _+_, _%_, _<_, _≤_}
+use native.Mathlib.Omega.{arith}
+use native.Mathlib.Decide.{ℕ-discrete}
+use lib.Dec.{eqb}
+use lib.ListN.{length, getD, set, replicate, length-set, getD-replicate, length-replicate}
+use lib.Seq.{getD-set-same, getD-set-other}
+use borrow.Author.Tests.{lt-ltb, le-ltb, eq-eqb, ne-eqb}
+use Rattle.rules.specs.Base.{one, mem}
+use Rattle.rules.specs.Texdec.{acceptedDirect, formatOf}
+use Rattle.rules.specs.Sampling.{isRgba32}
+use Rattle.rules.specs.Reading.{trail}
+use Rattle.rules.specs.Picture.{swapOdd, direct}
+use Rattle.rules.specs.Key.{noted}
+use Rattle.rules.proofs.Formats.{readsBy, direct-trail}
+
+pub noted-append : (s l m : List ℕ) → noted s (l ++ m) ≡ noted (noted s l) m
+unfolding noted
+noted-append s [] m = refl
+noted-append s (a ∷ l) m = noted-append (set s a 1) l m
+
+pub length-noted : (s l : List ℕ) → length (noted s l) ≡ length s
+unfolding noted
+length-noted s [] = refl
+length-noted s (a ∷ l) = length-noted (set s a 1) l ∙ length-set s a 1
+
+-- what is noted of a direct texel, by the number of its bytes
+module _ (s : List ℕ) (fmt siz base : ℕ) (odd : Bool) (rel p q : ℕ) (pair : acceptedDirect fmt siz ≡ true)
+    (first : p ≡ base + swapOdd odd rel) (second : q ≡ base + swapOdd odd (rel + 1)) where
+  pub four-noted : (t u : List ℕ) → isRgba32 fmt siz ≡ true → t ≡ noted s (p % 2048 ∷ q % 2048 ∷ [])
+      → u ≡ noted t ((p % 2048 + 2048) ∷ (q % 2048 + 2048) ∷ []) → (palette x : ℕ) (bank : List ℕ)
+      → u ≡ noted s (trail (direct (formatOf fmt siz) base palette odd rel x) bank)
+  unfolding noted readsBy
+  four-noted t u r e f palette x bank = rw (direct-trail fmt siz base palette odd rel x bank pair, r, f, e, first, second)
+
+  pub one-noted : isRgba32 fmt siz ≡ false → siz < 2 → (palette x : ℕ) (bank : List ℕ)
+      → set s (p % 4096) 1 ≡ noted s (trail (direct (formatOf fmt siz) base palette odd rel x) bank)
+  unfolding noted readsBy
+  one-noted r h palette x bank = rw (direct-trail fmt siz base palette odd rel x bank pair, r, lt-ltb siz 2 h, first)
+
+  pub two-noted : (t : List ℕ) → isRgba32 fmt siz ≡ false → 2 ≤ siz → t ≡ noted s (p % 4096 ∷ q % 4096 ∷ [])
+      → (palette x : ℕ) (bank : List ℕ) → t ≡ noted s (trail (direct (formatOf fmt siz) base palette odd rel x) bank)
+  unfolding noted readsBy
+  two-noted t r h e palette x bank = rw (direct-trail fmt siz base palette odd rel x bank pair, r, le-ltb siz 2 h, e, first, second)
