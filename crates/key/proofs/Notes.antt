@@ -12,10 +12,11 @@ use borrow.Author.Tests.{lt-ltb, le-ltb, eq-eqb, ne-eqb}
 use Rattle.rules.specs.Base.{one, mem}
 use Rattle.rules.specs.Texdec.{acceptedDirect, formatOf}
 use Rattle.rules.specs.Sampling.{isRgba32}
-use Rattle.rules.specs.Reading.{trail}
+use Rattle.rules.specs.Reading.{Reading, trail, upTo}
 use Rattle.rules.specs.Picture.{swapOdd, direct}
 use Rattle.rules.specs.Key.{noted}
 use Rattle.rules.proofs.Formats.{readsBy, direct-trail}
+use Rattle.rules.proofs.Readings.{trail-more}
 
 pub noted-append : (s l m : List ℕ) → noted s (l ++ m) ≡ noted (noted s l) m
 unfolding noted
@@ -26,6 +27,11 @@ pub length-noted : (s l : List ℕ) → length (noted s l) ≡ length s
 unfolding noted
 length-noted s [] = refl
 length-noted s (a ∷ l) = length-noted (set s a 1) l ∙ length-set s a 1
+
+-- one reading more of a row of them
+pub noted-more : (s : List ℕ) (f : ℕ → Reading) (b : List ℕ) (n : ℕ)
+    → noted s (trail (upTo (n + 1) f) b) ≡ noted (noted s (trail (upTo n f) b)) (trail (f n) b)
+noted-more s f b n = ap (noted s) (trail-more f b n) ∙ noted-append s (trail (upTo n f) b) (trail (f n) b)
 
 -- what is noted of a direct texel, by the number of its bytes
 module _ (s : List ℕ) (fmt siz base : ℕ) (odd : Bool) (rel p q : ℕ) (pair : acceptedDirect fmt siz ≡ true)

@@ -2,6 +2,7 @@
 // wrapped.
 ghost use mathlib.Core.Path.{_≡_};
 ghost use Rattle.rules.specs.Calls.{samplingTests};
+ghost use Rattle.rules.specs.Picture.{column, rowStart};
 ghost use Rattle.rules.specs.Refusal.{first};
 ghost use Rattle.rules.specs.Tile.{loadFieldsOutside, tileOutside, modeOutside, laneOutside};
 ghost use Rattle.rdp.specs.View.{tileOf};
@@ -43,6 +44,29 @@ impl TileDescriptor {
             | (15 < self.maskt)
             | (1024 < self.width)
             | (1024 < self.height)
+    }
+
+    // How far column x of a plain picture stands in its row, in bytes.
+    pub fn column(self, tlut: u32, x: u32) -> usize
+        ensures { λ r. ⌜ r ≡ column (tileOf self) tlut x ⌝ }
+    {
+        let at = x as usize;
+        if (self.fmt == 1) & (2 <= tlut) {
+            return at;
+        }
+        if self.siz == 0 {
+            return at / 2;
+        }
+        if self.siz == 1 { at } else { 2 * at }
+    }
+
+    // Where row y of a plain picture starts: rows repeat every 256.
+    pub fn row_start(self, y: u32) -> usize
+        ensures { λ r. ⌜ r ≡ rowStart (tileOf self) y ⌝ }
+    {
+        let line = self.line;
+        let stride = line.bytes();
+        (y % 256) as usize * stride.0
     }
 }
 

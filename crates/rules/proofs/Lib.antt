@@ -7,6 +7,7 @@ pub mod Over
 pub mod Maps
 pub mod Loads
 pub mod Swaps
+pub mod Rows
 pub mod Formats
 pub mod Refused
 pub mod Ranges
