@@ -1,5 +1,9 @@
+-- Demand 3 as theorems, and the laws that the key's code is proved by.
 pub mod Lift
 pub mod Flips
 pub mod Inside
 pub mod Notes
+pub mod Period
+pub mod Cuts
+pub mod Within
 pub mod Demand3

@@ -4,9 +4,9 @@ use mathlib.Core.Bool.{Bool, true, false, cond, _||_}
 use mathlib.Core.List.{List, [], _∷_, _++_}
 use Prim.Native.Nat.{ℕ, zero, suc, _+_, _%_, _<_, _≤_}
 use native.Mathlib.Omega.{arith}
-use native.Mathlib.Decide.{ℕ-discrete}
+use native.Mathlib.Decide.{ℕ-discrete, decLt}
 use lib.Dec.{eqb}
-use lib.ListN.{length, getD, set, replicate, length-set, getD-replicate, length-replicate}
+use lib.ListN.{length, getD, set, replicate, length-set, getD-replicate, length-replicate, List·getD-eq-default}
 use lib.Seq.{getD-set-same, getD-set-other}
 use borrow.Author.Tests.{lt-ltb, le-ltb, eq-eqb, ne-eqb}
 use Rattle.rules.specs.Base.{one, mem}
@@ -14,7 +14,7 @@ use Rattle.rules.specs.Texdec.{acceptedDirect, formatOf}
 use Rattle.rules.specs.Sampling.{isRgba32}
 use Rattle.rules.specs.Reading.{Reading, trail, upTo}
 use Rattle.rules.specs.Picture.{swapOdd, direct}
-use Rattle.rules.specs.Key.{noted}
+use Rattle.rules.specs.Key.{noted, Notes}
 use Rattle.rules.proofs.Formats.{readsBy, direct-trail}
 use Rattle.rules.proofs.Readings.{trail-more}
 
@@ -51,3 +51,42 @@ module _ (s : List ℕ) (fmt siz base : ℕ) (odd : Bool) (rel p q : ℕ) (pair 
       → (palette x : ℕ) (bank : List ℕ) → t ≡ noted s (trail (direct (formatOf fmt siz) base palette odd rel x) bank)
   unfolding noted readsBy
   two-noted t r h e palette x bank = rw (direct-trail fmt siz base palette odd rel x bank pair, r, le-ltb siz 2 h, e, first, second)
+
+note-at : (s l : List ℕ) (a : ℕ) → a < length s → getD (noted s l) a 0 ≡ cond (mem a l) 1 (getD s a 0)
+unfolding noted mem
+note-at s [] a h = refl
+note-at s (b ∷ l) a h = note-at (set s b 1) l a (rw length-set h) ∙ go (ℕ-discrete a b)
+  where
+    again : (t : Bool) → _≡_ {A = ℕ} (cond t 1 1) 1
+    again true = refl
+    again false = refl
+
+    go : Dec (a ≡ b) → cond (mem a l) 1 (getD (set s b 1) a 0) ≡ cond (eqb a b || mem a l) 1 (getD s a 0)
+    go (yes e) =
+        let q : b < length s = omega arith in
+        rw (eq-eqb a b e, e, getD-set-same s b 1 0 q) (again (mem b l))
+    go (no e) = rw (ne-eqb a b e, getD-set-other s b a 1 0 e)
+
+-- from none on, the notes are those of the list
+pub notes-of : (l : List ℕ) → Notes (noted (replicate 4096 0) l) l
+unfolding Notes
+notes-of l a h =
+    note-at (replicate 4096 0) l a (rw (length-replicate {A = ℕ} 4096 0) h) ∙ ap (cond (mem a l) 1) (getD-replicate 4096 a 0 0 h)
+
+-- notes of a list are notes of any other with the same addresses
+pub notes-same : (seen l m : List ℕ) → ((a : ℕ) → mem a l ≡ mem a m) → Notes seen l → Notes seen m
+unfolding Notes
+notes-same seen l m e n a h = n a h ∙ ap one (e a)
+
+-- a note is 0 or 1
+pub note-small : (seen l : List ℕ) → length seen ≡ 4096 → Notes seen l → (i : ℕ) → getD seen i 0 ≤ 1
+unfolding Notes
+note-small seen l n h i = go (decLt i 4096)
+  where
+    small : (b : Bool) → one b ≤ 1
+    small true = omega arith
+    small false = omega arith
+
+    go : Dec (i < 4096) → getD seen i 0 ≤ 1
+    go (yes p) = rw (h i p) (small (mem i l))
+    go (no p) = let past : length seen ≤ i = omega arith in rw (List·getD-eq-default seen 0 past) (omega arith)

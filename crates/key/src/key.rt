@@ -1,0 +1,81 @@
+// The key of a picture.
+ghost use mathlib.Core.Path.{_≡_};
+ghost use mathlib.Core.Bool.{true};
+ghost use mathlib.Core.List.{[], _∷_};
+ghost use Prim.Native.Nat.{_≤_};
+ghost use lib.ListN.{length, replicate};
+ghost use Rattle.rules.specs.Texdec.{accepted};
+ghost use Rattle.rules.specs.Tile.{InRange};
+ghost use Rattle.rules.specs.Reading.{trail};
+ghost use Rattle.rules.specs.Picture.{picture};
+ghost use Rattle.rules.specs.Refusal.{first};
+ghost use Rattle.rules.specs.Calls.{keyTests, keyCall};
+ghost use Rattle.rules.specs.Key.{key, keptCount, Notes};
+ghost use Rattle.rdp.specs.View.{tileOf, answered};
+use crate::cut::cut;
+use crate::cut::empty_key;
+use crate::rows::note_lookup;
+use crate::rows::note_plain;
+use rdp::answer::Answer;
+use rdp::refusal;
+use rdp::tile::TileDescriptor;
+use texdec::pair::pair_refusal;
+use tile_sampling::sampling::TileSampling;
+
+// The first refusal of the call's inputs. An accepted pair is always known to the texel step, so 9 is never given.
+fn key_refusal(bank: &[u8], tile: TileDescriptor, tlut: u32, lane: u32, out: &[u8]) -> u32
+    ensures { λ r. ⌜ r ≡ first (keyTests (now (bank .entry)) (tileOf tile) tlut lane (now (out .entry))) ⌝ }
+{
+    if bank.len() != 4096 {
+        return refusal::LENGTH;
+    }
+    if out.len() != 4096 {
+        return refusal::LENGTH;
+    }
+    pair_refusal(tile, tlut, lane)
+}
+
+// Notes what the picture that the flag calls for reads.
+fn note_picture(bank: &[u8], seen: &mut [u8], tile: TileDescriptor, tlut: u32, lane: u32)
+    requires { ⌜ length (now bank) ≡ 4096 ⌝ }
+    requires { ⌜ now seen ≡ replicate 4096 0 ⌝ }
+    requires { ⌜ InRange (tileOf tile) ⌝ }
+    requires { ⌜ lane ≤ 3 ⌝ }
+    requires { ⌜ accepted tlut (tile .fmt) (tile .siz) ≡ true ⌝ }
+    ensures { λ _. ⌜ Notes (now (seen .exit)) (trail (picture (tileOf tile) tlut lane) (now (bank .entry))) ⌝ }
+{
+    let sampling = TileSampling::from_tile(tile, tlut);
+    if sampling.lookup {
+        note_lookup(bank, seen, tile, tlut, lane);
+    } else {
+        note_plain(bank, seen, tile, tlut, lane);
+    }
+}
+
+// The key of that picture, and its kept count.
+fn cut_picture(bank: &[u8], tile: TileDescriptor, tlut: u32, lane: u32, out: &mut [u8]) -> u32
+    requires { ⌜ (length (now bank) ≡ 4096) × (length (now out) ≡ 4096) ⌝ }
+    requires { ⌜ InRange (tileOf tile) ⌝ }
+    requires { ⌜ lane ≤ 3 ⌝ }
+    requires { ⌜ accepted tlut (tile .fmt) (tile .siz) ≡ true ⌝ }
+    ensures { λ r. ⌜ (now (out .exit) ≡ key (tileOf tile) tlut lane (now (bank .entry))) × (r ≡ keptCount (tileOf tile) tlut lane (now (bank .entry))) ⌝ }
+{
+    let mut seen = empty_key();
+    note_picture(bank, &mut seen, tile, tlut, lane);
+    cut(bank, &seen, out)
+}
+
+// The key of a picture, with the count of kept bytes; or the refusal (1, 2, 3, 5, 9), and `out` as it was lent.
+pub fn key(bank: &[u8], tile: TileDescriptor, tlut: u32, lane: u32, out: &mut [u8]) -> Answer
+    ensures { λ r. ⌜ answered r (now (out .exit) ∷ []) ≡ keyCall (now (bank .entry)) (tileOf tile) tlut lane (now (out .entry)) ⌝ }
+{
+    let no = key_refusal(bank, tile, tlut, lane, out);
+    if no != 0 {
+        return Answer {
+            refusal: no,
+            count: 0,
+        };
+    }
+    let count = cut_picture(bank, tile, tlut, lane, out);
+    Answer { refusal: 0, count }
+}

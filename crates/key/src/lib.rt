@@ -1,4 +1,5 @@
 // The key of a picture: the bank with every byte that making the picture reads kept, and all others zero.
+mod cut;
+pub mod key;
 mod reads;
 mod rows;
-pub mod key;

@@ -69,7 +69,15 @@ fn entry_at(tile: TileDescriptor, lane: u32, x: usize, byte: u8) -> usize
 }
 
 // A texel through the lookup table: its index byte, and the two bytes of the entry.
-fn note_paletted(bank: &[u8], seen: &mut [u8], tile: TileDescriptor, lane: u32, odd: bool, rel: usize, x: usize)
+fn note_paletted(
+    bank: &[u8],
+    seen: &mut [u8],
+    tile: TileDescriptor,
+    lane: u32,
+    odd: bool,
+    rel: usize,
+    x: usize,
+)
     requires { ⌜ (length (now bank) ≡ 4096) × (length (now seen) ≡ 4096) ⌝ }
     requires { ⌜ InRange (tileOf tile) ⌝ }
     requires { ⌜ lane ≤ 3 ⌝ }
@@ -84,7 +92,16 @@ fn note_paletted(bank: &[u8], seen: &mut [u8], tile: TileDescriptor, lane: u32, 
 }
 
 // What one texel reads.
-pub(crate) fn note_texel(bank: &[u8], seen: &mut [u8], tile: TileDescriptor, tlut: u32, lane: u32, odd: bool, rel: usize, x: usize)
+pub(crate) fn note_texel(
+    bank: &[u8],
+    seen: &mut [u8],
+    tile: TileDescriptor,
+    tlut: u32,
+    lane: u32,
+    odd: bool,
+    rel: usize,
+    x: usize,
+)
     requires { ⌜ (length (now bank) ≡ 4096) × (length (now seen) ≡ 4096) ⌝ }
     requires { ⌜ InRange (tileOf tile) ⌝ }
     requires { ⌜ lane ≤ 3 ⌝ }

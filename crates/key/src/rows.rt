@@ -24,7 +24,16 @@ fn note_plain_row(bank: &[u8], seen: &mut [u8], tile: TileDescriptor, tlut: u32,
     let odd = y % 2 == 1;
     let width = tile.width;
     for x in 0..width {
-        note_texel(bank, seen, tile, tlut, lane, odd, start + tile.column(tlut, x), x as usize);
+        note_texel(
+            bank,
+            seen,
+            tile,
+            tlut,
+            lane,
+            odd,
+            start + tile.column(tlut, x),
+            x as usize,
+        );
     }
 }
 
@@ -50,7 +59,14 @@ pub(crate) fn note_plain(bank: &[u8], seen: &mut [u8], tile: TileDescriptor, tlu
 }
 
 // Row r of a lookup: its row is odd from 2 on, and its column's parity is r's.
-fn note_lookup_row(bank: &[u8], seen: &mut [u8], tile: TileDescriptor, tlut: u32, lane: u32, r: usize)
+fn note_lookup_row(
+    bank: &[u8],
+    seen: &mut [u8],
+    tile: TileDescriptor,
+    tlut: u32,
+    lane: u32,
+    r: usize,
+)
     requires { ⌜ (length (now bank) ≡ 4096) × (length (now seen) ≡ 4096) ⌝ }
     requires { ⌜ InRange (tileOf tile) ⌝ }
     requires { ⌜ lane ≤ 3 ⌝ }

@@ -11,4 +11,5 @@ pub mod Rows
 pub mod Formats
 pub mod Refused
 pub mod Ranges
+pub mod Allowed
 pub mod Worked

@@ -1,8 +1,10 @@
 -- Laws of the first refusal, and of what a call answers and leaves.
 use mathlib.Core.Path.{_≡_, refl, ap, sym, _∙_}
-use mathlib.Core.Bool.{Bool, true, false, cond}
-use mathlib.Core.List.{List, [], _∷_}
+use mathlib.Core.Bool.{Bool, true, false, cond, not, _&&_, true≢false}
+use mathlib.Core.List.{List, [], _∷_, _++_}
 use Prim.Native.Nat.{ℕ, zero, suc}
+use lib.Dec.{eqb}
+use borrow.Author.Tests.{eq-eqb, ne-eqb, eqb-false}
 use mir.Val.{boolByte}
 use Rattle.rules.specs.Base.{one}
 use Rattle.rules.specs.Refusal.{Test, first, Outcome, zeros, settle, call}
@@ -25,6 +27,20 @@ unfoldable pub Numbered : List Test → Type 0
 Numbered [] = Unit {0}
 Numbered (t ∷ l) = (t .number ≡ 0 → ⊥) × Numbered l
 
+-- antt computes that of a list whose numbers are written out
+abbrev pub nonzero : List Test → Bool
+nonzero [] = true
+nonzero (t ∷ l) = not (eqb (t .number) 0) && nonzero l
+
+pub numbered : (l : List Test) → nonzero l ≡ true → Numbered l
+unfolding Numbered
+numbered [] h = tt
+numbered (t ∷ l) h = go (eqb (t .number) 0) refl h (numbered l)
+  where
+    go : (b : Bool) → eqb (t .number) 0 ≡ b → (not b && nonzero l) ≡ true → (nonzero l ≡ true → Numbered l) → (t .number ≡ 0 → ⊥) × Numbered l
+    go true e h′ ih = absurd (true≢false (sym h′))
+    go false e h′ ih = (eqb-false (t .number) 0 e, ih h′)
+
 -- where nothing is refused, every test passed
 pub passed : (l : List Test) → Numbered l → first l ≡ 0 → Passed l
 unfolding first Passed Numbered
@@ -34,6 +50,24 @@ passed (t ∷ l) n h = go (t .fails) refl h (passed l (n .1))
     go : (b : Bool) → t .fails ≡ b → cond b (t .number) (first l) ≡ 0 → (first l ≡ 0 → Passed l) → (t .fails ≡ false) × Passed l
     go true e h′ ih = absurd (n .0 h′)
     go false e h′ ih = (e, ih h′)
+
+-- tests after others are reached where none of those fails
+pub first-append : (l m : List Test) → Numbered l → first (l ++ m) ≡ cond (eqb (first l) 0) (first m) (first l)
+unfolding first Numbered
+first-append [] m n = refl
+first-append (t ∷ l) m n = go (t .fails) (first-append l m (n .1))
+  where
+    go : (b : Bool) → first (l ++ m) ≡ cond (eqb (first l) 0) (first m) (first l)
+        → cond b (t .number) (first (l ++ m)) ≡ cond (eqb (cond b (t .number) (first l)) 0) (first m) (cond b (t .number) (first l))
+    go true ih = rw (ne-eqb (t .number) 0 (n .0))
+    go false ih = ih
+
+-- the first refusal is that of the tests before, or, where they passed, that of the tests after
+pub first-before : (l m : List Test) (k : ℕ) → Numbered l → k ≡ first l → (k ≡ 0 → ⊥) → k ≡ first (l ++ m)
+first-before l m k n e h = e ∙ sym (first-append l m n ∙ rw (ne-eqb (first l) 0 (λ z. h (e ∙ z))))
+
+pub first-after : (l m : List Test) → Numbered l → first l ≡ 0 → first (l ++ m) ≡ first m
+first-after l m n e = first-append l m n ∙ rw (eq-eqb (first l) 0 e)
 
 settled : (n : ℕ) (numbers : List ℕ) (left lent : List (List ℕ)) → (n ≡ 0 → ⊥)
     → record { refusal = n; numbers = zeros numbers; buffers = lent } ≡ settle n numbers left lent

@@ -4,4 +4,5 @@ pub mod entry;
 pub mod format;
 pub mod ia8;
 pub mod nibble;
+pub mod pair;
 pub mod palette;
