@@ -1,2 +1,3 @@
 // Texture memory, as tmem.rs has it.
+mod extent;
 mod map;
