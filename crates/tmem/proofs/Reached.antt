@@ -1,0 +1,75 @@
+-- Bounds of a reach: where its addresses wrap, how many there are of a row, and how many rows.
+use mathlib.Core.Path.{_≡_, refl, sym}
+use mathlib.Core.Bool.{Bool, true, false, cond, _&&_, _||_, true≢false}
+use mathlib.Core.List.{List, []}
+use Prim.Native.Nat.{ℕ, _+_, _-_, _*_, _/_, _%_, _^_, _<_, _≤_, min, max}
+use native.Mathlib.Nat.{div-le-self, mod-lt}
+use native.Mathlib.Omega.{arith}
+use lib.Bits.{bitXor, bitAnd, xor-add-and}
+use lib.Dec.{ltb, leb}
+use Rattle.rules.specs.Tile.{Tile}
+use Rattle.rules.specs.Sampling.{isRgba32}
+use Rattle.rules.specs.Texdec.{tlut}
+use Rattle.rules.specs.Picture.{swapOdd}
+use Rattle.rules.specs.Reach.{trailingZeros, rowBytes, rowPeriod, reachRows, modulus, xStep, xCount, doubled}
+use Rattle.rules.specs.Base.{marked, marks}
+
+-- a choice between two numbers lies where both do
+between : (b : Bool) (x y low high : ℕ) → (low ≤ x) × (x ≤ high) → (low ≤ y) × (y ≤ high) → (low ≤ cond b x y) × (cond b x y ≤ high)
+between true x y low high p q = p
+between false x y low high p q = q
+
+-- the swap moves an address by 4 at most
+pub swap-le : (swap : Bool) (rel : ℕ) → swapOdd swap rel ≤ rel + 4
+swap-le true rel = omega (arith, xor-add-and rel 4)
+swap-le false rel = omega arith
+
+-- an address stands for one in the upper half as well
+abbrev pub doubles : Tile → ℕ → Bool
+doubles t mode = ltb mode 2 && isRgba32 (t .fmt) (t .siz)
+
+module _ (t : Tile) (mode : ℕ) where
+  pub modulus-bounds : (2048 ≤ modulus t mode) × (modulus t mode ≤ 4096)
+  modulus-bounds = between (tlut mode || isRgba32 (t .fmt) (t .siz)) 2048 4096 2048 4096 (omega arith) (omega arith)
+
+  -- an address lies below it
+  pub wrapped : (n : ℕ) → n % modulus t mode < modulus t mode
+  wrapped n = mod-lt n (omega (arith, modulus-bounds))
+
+  -- where addresses are doubled they lie in the lower half
+  pub modulus-doubled : doubles t mode ≡ true → modulus t mode ≡ 2048
+  modulus-doubled h = go (ltb mode 2) (tlut mode) (isRgba32 (t .fmt) (t .siz)) h
+    where
+      go : (a b c : Bool) → (a && c) ≡ true → _≡_ {A = ℕ} (cond (b || c) 2048 4096) 2048
+      go a true c h = refl
+      go a false true h = refl
+      go true false false h = absurd (true≢false (sym h))
+      go false false false h = absurd (true≢false (sym h))
+
+  pub step-bounds : (1 ≤ xStep t mode) × (xStep t mode ≤ 2)
+  step-bounds = between (tlut mode && leb 2 (t .siz)) 2 1 1 2 (omega arith) (omega arith)
+
+  pub row-bytes-le : rowBytes t ≤ 4096
+  unfolding rowBytes
+  row-bytes-le = omega arith
+
+  pub count-le : xCount t mode ≤ 4096
+  count-le = go (tlut mode && leb 2 (t .siz)) (rowBytes t) row-bytes-le
+    where
+      go : (b : Bool) (n : ℕ) → n ≤ 4096 → (n + (cond b 2 1 - 1)) / cond b 2 1 ≤ 4096
+      go true n h = omega arith
+      go false n h = omega arith
+
+pub rows-le : (t : Tile) → reachRows t ≤ 4096
+unfolding reachRows rowPeriod
+rows-le t = omega (arith, div-le-self 4096 (2 ^ trailingZeros 12 (8 * t .line)))
+
+-- what marking an address with its double does, where it has one and where not
+module _ (t : Tile) (mode at : ℕ) (map : List ℕ) where
+  pub mark-both : doubles t mode ≡ true → marks map (doubled t mode at) ≡ marked (marked map at) (at + 2048)
+  unfolding doubled marks
+  mark-both h = rw h
+
+  pub mark-one : doubles t mode ≡ false → marks map (doubled t mode at) ≡ marked map at
+  unfolding doubled marks
+  mark-one h = rw h

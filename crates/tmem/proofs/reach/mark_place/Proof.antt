@@ -1,0 +1,26 @@
+-- `tmem::reach::mark_place` marks the address of a place, which lies below the modulus. Assumes nothing.
+use borrow.Author.Needs.{needs}
+use Rattle.rules.specs.Reach.{reachAt}
+use Rattle.rdp.specs.View.{tileOf}
+use Rattle.tmem.proofs.Reached.{wrapped}
+use Rattle.tmem.proofs.reach.mark_place.Statement.{statement}
+use Rattle.tmem.proofs.reach.mark_place.Tie as tie
+
+reach-address-requires : tie.Need-reach-address-requires
+reach-address-requires c κs = search needs
+
+mark-doubled-requires : tie.Need-mark-doubled-requires
+mark-doubled-requires c κs =
+    let d = c .before .before .before in
+    (d .pre .0, rw (c .reach-address .ensures) (wrapped (tileOf (d .args .tile)) (d .args .tlut) _))
+
+same-length : tie.Need-same-length
+same-length c = search needs
+
+returns : tie.Need-returns
+unfolding reachAt
+returns c = ?
+
+pub mark-place-spec : {M : Type 1} → statement M
+mark-place-spec =
+    tie.close (tie.spec reach-address-requires mark-doubled-requires same-length returns)

@@ -1,0 +1,68 @@
+-- `tmem::reach::mark_row` marks the row's places one after the other. The loop's invariant: the map has the marks of the
+-- places below i. Assumes nothing.
+use mathlib.Core.Path.{_≡_, sym}
+use Prim.Native.Nat.{_≤_, _-_}
+use native.Mathlib.Omega.{arith}
+use lib.ListN.{length}
+use borrow.Author.Needs.{needs}
+use Rattle.rules.specs.Base.{tab, concat, marks}
+use Rattle.rules.specs.Reach.{reachAt, reachRow}
+use Rattle.rdp.specs.View.{tileOf}
+use Rattle.tmem.proofs.Joined.{marks-none, marks-more}
+use Rattle.tmem.proofs.Reached.{count-le}
+use Rattle.tmem.proofs.reach.mark_row.Statement.{statement}
+use Rattle.tmem.proofs.reach.mark_row.Tie as tie
+
+abbrev Inv-loop : tie.InvT-loop
+Inv-loop map₀ tile tlut y count i₀ map i =
+    (i ≤ count) × (map ≡ marks map₀ (concat (tab i (reachAt (tileOf tile) tlut y)))) × (length map ≡ 512)
+
+abbrev μ-loop : tie.MeasureT-loop
+μ-loop map₀ tile tlut y count i₀ map i = count - i
+
+x-count-requires : tie.Need-x-count-requires Inv-loop μ-loop
+x-count-requires c κs = search needs
+
+loop-holds : tie.Need-loop-holds Inv-loop μ-loop
+loop-holds c = (omega arith, sym (marks-none _ _), c .before .before .pre .0)
+
+mark-place-requires : tie.Need-mark-place-requires Inv-loop μ-loop
+mark-place-requires c κs =
+    let a = c .before .before .before .before .before .args in
+    let p = c .before .before .before .before .before .pre in
+    (c .before .before .loop .inv .2, (p .1 .0, (p .1 .1, omega (arith, count-le (tileOf (a .tile)) (a .tlut)))))
+
+add-i : tie.Need-add-i Inv-loop μ-loop
+add-i c = search needs
+
+loop-less : tie.Need-loop-less Inv-loop μ-loop
+loop-less c = search needs
+
+loop-again : tie.Need-loop-again Inv-loop μ-loop
+loop-again c =
+    let d = c .before .before in
+    (search needs, marks-more _ _ _ _ _ (d .before .before .before .loop .inv .1) (d .mark-place .ensures), omega (arith, d .mark-place .kept .0))
+
+same-length : tie.Need-same-length Inv-loop μ-loop
+same-length c = search needs
+
+returns : tie.Need-returns Inv-loop μ-loop
+unfolding reachRow
+returns c =
+    let end : c .before .loop .i ≡ c .before .before .x-count .result = omega arith in
+    rw (c .before .loop .inv .1, end, c .before .before .x-count .ensures)
+
+pub mark-row-spec : {M : Type 1} → statement M
+mark-row-spec =
+    tie.close
+    (tie.spec
+    Inv-loop
+    μ-loop
+    x-count-requires
+    loop-holds
+    mark-place-requires
+    add-i
+    loop-less
+    loop-again
+    same-length
+    returns)
