@@ -19,7 +19,7 @@ same-length c = search needs
 
 returns : tie.Need-returns
 unfolding reachAt
-returns c = ?
+returns c = rw (c .before .before .mark-doubled .ensures, c .before .before .before .reach-address .ensures)
 
 pub mark-place-spec : {M : Type 1} → statement M
 mark-place-spec =

@@ -1,47 +1,55 @@
+-- `tmem::reach::mark_plain` marks row after row. The loop's invariant: the map has the marks of the rows below y. Assumes
+-- nothing.
+use mathlib.Core.Path.{_≡_, sym}
+use Prim.Native.Nat.{_≤_, _-_}
+use native.Mathlib.Omega.{arith}
+use lib.ListN.{length}
+use borrow.Author.Needs.{needs}
+use Rattle.rules.specs.Base.{tab, concat, marks}
+use Rattle.rules.specs.Reach.{reachRow, reachPlain}
+use Rattle.rdp.specs.View.{tileOf}
+use Rattle.tmem.proofs.Joined.{marks-none, marks-more}
+use Rattle.tmem.proofs.Reached.{rows-le}
 use Rattle.tmem.proofs.reach.mark_plain.Statement.{statement}
 use Rattle.tmem.proofs.reach.mark_plain.Tie as tie
-use Rattle.tmem.proofs.reach.mark_plain.Reads as reads
-use Rattle.tmem.proofs.reach.mark_plain.Lts as lts
-use Rattle.tmem.proofs.extent.reach_rows.Reads as reach-rows-reads
-use Rattle.tmem.proofs.reach.mark_row.Reads as mark-row-reads
 
 abbrev Inv-loop : tie.InvT-loop
-Inv-loop map₀ tile tlut rows y₀ map y = ?
+Inv-loop map₀ tile tlut rows y₀ map y =
+    (y ≤ rows) × (map ≡ marks map₀ (concat (tab y (reachRow (tileOf tile) tlut)))) × (length map ≡ 512)
 
 abbrev μ-loop : tie.MeasureT-loop
-μ-loop map₀ tile tlut rows y₀ map y = ?
+μ-loop map₀ tile tlut rows y₀ map y = rows - y
 
--- src/reach.rt:118:9
 reach-rows-requires : tie.Need-reach-rows-requires Inv-loop μ-loop
-reach-rows-requires c κs = ?
+reach-rows-requires c κs = search needs
 
--- src/reach.rt:119:5
 loop-holds : tie.Need-loop-holds Inv-loop μ-loop
-loop-holds c = ?
+loop-holds c = (omega arith, sym (marks-none _ _), c .before .before .pre .0)
 
--- src/reach.rt:120:9
 mark-row-requires : tie.Need-mark-row-requires Inv-loop μ-loop
-mark-row-requires c κs = ?
+mark-row-requires c κs =
+    let d = c .before .before .before .before .before in
+    (c .before .before .loop .inv .2, (d .pre .1, omega (arith, rows-le (tileOf (d .args .tile)))))
 
--- src/reach.rt:119:9
 add-y : tie.Need-add-y Inv-loop μ-loop
-add-y c = ?
+add-y c = search needs
 
--- src/reach.rt:119:5
 loop-less : tie.Need-loop-less Inv-loop μ-loop
-loop-less c = ?
+loop-less c = search needs
 
--- src/reach.rt:119:5
 loop-again : tie.Need-loop-again Inv-loop μ-loop
-loop-again c = ?
+loop-again c =
+    let d = c .before .before in
+    (search needs, marks-more _ _ _ _ _ (d .before .before .before .loop .inv .1) (d .mark-row .ensures), omega (arith, d .mark-row .kept .0))
 
--- src/reach.rt:113:1
 same-length : tie.Need-same-length Inv-loop μ-loop
-same-length c = ?
+same-length c = search needs
 
--- src/reach.rt:113:1
 returns : tie.Need-returns Inv-loop μ-loop
-returns c = ?
+unfolding reachPlain
+returns c =
+    let end : c .before .loop .y ≡ c .before .before .reach-rows .result = omega arith in
+    rw (c .before .loop .inv .1, end, c .before .before .reach-rows .ensures)
 
 pub mark-plain-spec : {M : Type 1} → statement M
 mark-plain-spec =

@@ -1,47 +1,53 @@
+-- `tmem::reach::mark_whole` marks address after address. The loop's invariant: the map has the marks of those below `at`.
+-- Assumes nothing.
+use mathlib.Core.Path.{_≡_, sym}
+use Prim.Native.Nat.{_≤_, _-_}
+use native.Mathlib.Omega.{arith}
+use lib.ListN.{length}
+use borrow.Author.Needs.{needs}
+use Rattle.rules.specs.Base.{tab, concat, marks}
+use Rattle.rules.specs.Reach.{doubled, reachWhole}
+use Rattle.rdp.specs.View.{tileOf}
+use Rattle.tmem.proofs.Joined.{marks-none, marks-more}
 use Rattle.tmem.proofs.reach.mark_whole.Statement.{statement}
 use Rattle.tmem.proofs.reach.mark_whole.Tie as tie
-use Rattle.tmem.proofs.reach.mark_whole.Reads as reads
-use Rattle.tmem.proofs.reach.mark_whole.Lts as lts
-use Rattle.tmem.proofs.reach.mark_doubled.Reads as mark-doubled-reads
-use Rattle.tmem.proofs.reach.modulus.Reads as modulus-reads
 
 abbrev Inv-loop : tie.InvT-loop
-Inv-loop map₀ tile tlut end at₀ map at = ?
+Inv-loop map₀ tile tlut end at₀ map at =
+    (at ≤ end) × (map ≡ marks map₀ (concat (tab at (doubled (tileOf tile) tlut)))) × (length map ≡ 512)
 
 abbrev μ-loop : tie.MeasureT-loop
-μ-loop map₀ tile tlut end at₀ map at = ?
+μ-loop map₀ tile tlut end at₀ map at = end - at
 
--- src/reach.rt:119:9
 modulus-requires : tie.Need-modulus-requires Inv-loop μ-loop
-modulus-requires c κs = ?
+modulus-requires c κs = search needs
 
--- src/reach.rt:120:5
 loop-holds : tie.Need-loop-holds Inv-loop μ-loop
-loop-holds c = ?
+loop-holds c = (omega arith, sym (marks-none _ _), c .before .before .pre)
 
--- src/reach.rt:121:9
 mark-doubled-requires : tie.Need-mark-doubled-requires Inv-loop μ-loop
-mark-doubled-requires c κs = ?
+mark-doubled-requires c κs =
+    (c .before .before .loop .inv .2, omega (arith, c .before .before .before .modulus .ensures))
 
--- src/reach.rt:120:9
 add-at : tie.Need-add-at Inv-loop μ-loop
-add-at c = ?
+add-at c = search needs
 
--- src/reach.rt:120:5
 loop-less : tie.Need-loop-less Inv-loop μ-loop
-loop-less c = ?
+loop-less c = search needs
 
--- src/reach.rt:120:5
 loop-again : tie.Need-loop-again Inv-loop μ-loop
-loop-again c = ?
+loop-again c =
+    let d = c .before .before in
+    (search needs, marks-more _ _ _ _ _ (d .before .before .before .loop .inv .1) (d .mark-doubled .ensures), omega (arith, d .mark-doubled .kept .0))
 
--- src/reach.rt:115:1
 same-length : tie.Need-same-length Inv-loop μ-loop
-same-length c = ?
+same-length c = search needs
 
--- src/reach.rt:115:1
 returns : tie.Need-returns Inv-loop μ-loop
-returns c = ?
+unfolding reachWhole
+returns c =
+    let end : c .before .loop .at ≡ c .before .before .modulus .result = omega arith in
+    rw (c .before .loop .inv .1, end, c .before .before .modulus .ensures)
 
 pub mark-whole-spec : {M : Type 1} → statement M
 mark-whole-spec =
