@@ -5,11 +5,15 @@ use mathlib.Core.List.{List, [], _∷_}
 use Prim.Native.Nat.{ℕ, _≤_, _^_, max}
 use native.Mathlib.Omega.{arith}
 use lib.Dec.{ltb}
+use lib.ListN.{length}
 use lib.Pow.{pow-mono}
-use borrow.Author.Tests.{ltb-false}
+use borrow.Author.Tests.{ltb-false, eqb-true, not-false}
 use Rattle.rules.specs.Tile.{Tile, loadFieldsOutside, tileOutside}
 use Rattle.rules.specs.Reach.{extent}
 use Rattle.rules.specs.Sampling.{repeats}
+use Rattle.rules.specs.Refusal.{first}
+use Rattle.rules.specs.Calls.{mapTests}
+use Rattle.rules.proofs.Refused.{Passed, Numbered, passed}
 use Rattle.tmem.specs.InRange.{InRange}
 
 -- one of the tests holds
@@ -46,6 +50,13 @@ in-range t h =
       width = ltb-false _ _ (all .1 .1 .1 .1 .1 .1 .0);
       height = ltb-false _ _ (all .1 .1 .1 .1 .1 .1 .1 .0);
     }
+
+-- what holds of a map and a tile that are not refused
+pub within : (map : List ℕ) (t : Tile) (mode : ℕ) → first (mapTests map t mode) ≡ 0 → (length map ≡ 512) × InRange t
+unfolding Passed Numbered
+within map t mode h =
+    let p = passed (mapTests map t mode) ((λ e. omega arith), ((λ e. omega arith), ((λ e. omega arith), tt))) h in
+    (eqb-true _ _ (not-false _ (p .0)), in-range t (p .1 .0))
 
 -- an axis reaches 2^15 at most
 pub extent-le : (cm mask size : ℕ) → mask ≤ 15 → size ≤ 1024 → extent cm mask size ≤ 32768

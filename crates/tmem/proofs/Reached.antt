@@ -1,17 +1,18 @@
 -- Bounds of a reach: where its addresses wrap, how many there are of a row, and how many rows.
-use mathlib.Core.Path.{_≡_, refl, sym}
+use mathlib.Core.Path.{_≡_, refl, ap, sym, _∙_}
 use mathlib.Core.Bool.{Bool, true, false, cond, _&&_, _||_, true≢false}
-use mathlib.Core.List.{List, []}
+use mathlib.Core.List.{List}
 use Prim.Native.Nat.{ℕ, _+_, _-_, _*_, _/_, _%_, _^_, _<_, _≤_, min, max}
 use native.Mathlib.Nat.{div-le-self, mod-lt}
 use native.Mathlib.Omega.{arith}
 use lib.Bits.{bitXor, bitAnd, xor-add-and}
 use lib.Dec.{ltb, leb}
+use lib.ListN.{replicate}
 use Rattle.rules.specs.Tile.{Tile}
-use Rattle.rules.specs.Sampling.{isRgba32}
+use Rattle.rules.specs.Sampling.{isRgba32, flag}
 use Rattle.rules.specs.Texdec.{tlut}
 use Rattle.rules.specs.Picture.{swapOdd}
-use Rattle.rules.specs.Reach.{trailingZeros, rowBytes, rowPeriod, reachRows, modulus, xStep, xCount, doubled}
+use Rattle.rules.specs.Reach.{trailingZeros, rowBytes, rowPeriod, reachRows, modulus, xStep, xCount, doubled, reachPlain, reachWhole, reach, reachMap}
 use Rattle.rules.specs.Base.{marked, marks}
 
 -- a choice between two numbers lies where both do
@@ -73,3 +74,19 @@ module _ (t : Tile) (mode at : ℕ) (map : List ℕ) where
   pub mark-one : doubles t mode ≡ false → marks map (doubled t mode at) ≡ marked map at
   unfolding doubled marks
   mark-one h = rw h
+
+-- which list is the reach
+module _ (t : Tile) (mode : ℕ) where
+  pub reach-whole : flag t mode ≡ true → reach t mode ≡ reachWhole t mode
+  unfolding reach
+  reach-whole h = rw (h, reach)
+
+  pub reach-plain : flag t mode ≡ false → reach t mode ≡ reachPlain t mode
+  unfolding reach
+  reach-plain h = rw (h, reach)
+
+  -- a cleared map with that list's marks is the reach map
+  pub reach-map : (n : ℕ) (l cleared map : List ℕ) → n ≡ 512 → cleared ≡ replicate n 0 → map ≡ marks cleared l → reach t mode ≡ l → map ≡ reachMap t mode
+  unfolding reachMap
+  reach-map n l cleared map e z m r =
+      m ∙ ap (λ c. marks c l) (z ∙ ap (λ n. replicate n 0) e) ∙ ap (marks (replicate 512 0)) (sym r)

@@ -52,7 +52,10 @@ pub(crate) fn row_bytes(tile: TileDescriptor) -> usize
     requires { ⌜ InRange (tileOf tile) ⌝ }
     ensures { λ r. ⌜ r ≡ rowBytes (tileOf tile) ⌝ }
 {
-    lesser(sized_bytes(tile.siz, axis_extent(tile.cms, tile.masks, tile.width)), 4096)
+    lesser(
+        sized_bytes(tile.siz, axis_extent(tile.cms, tile.masks, tile.width)),
+        4096,
+    )
 }
 
 // The rows after which the addresses repeat, the swap of odd rows among them.
@@ -70,5 +73,8 @@ pub(crate) fn reach_rows(tile: TileDescriptor) -> usize
     requires { ⌜ InRange (tileOf tile) ⌝ }
     ensures { λ r. ⌜ r ≡ reachRows (tileOf tile) ⌝ }
 {
-    lesser(axis_extent(tile.cmt, tile.maskt, tile.height), row_period(tile))
+    lesser(
+        axis_extent(tile.cmt, tile.maskt, tile.height),
+        row_period(tile),
+    )
 }

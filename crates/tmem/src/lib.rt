@@ -1,4 +1,5 @@
 // Texture memory, as tmem.rs has it.
 mod extent;
+mod fresh;
 mod map;
 pub mod reach;

@@ -4,15 +4,22 @@ ghost use mathlib.Core.Bool.{_&&_};
 ghost use Prim.Native.Nat.{_+_, _*_, _<_, _%_};
 ghost use lib.Dec.{ltb};
 ghost use lib.ListN.{length};
+ghost use mathlib.Core.List.{[], _∷_};
 ghost use Rattle.rules.specs.Base.{odd, marks};
 ghost use Rattle.rules.specs.Picture.{address, swapOdd};
-ghost use Rattle.rules.specs.Reach.{modulus, doubled, xStep, xCount, reachAt, reachRow, reachPlain, reachWhole};
+ghost use Rattle.rules.specs.Reach.{modulus, doubled, xStep, xCount, reachAt, reachRow, reachPlain, reachWhole, reachMap};
+ghost use Rattle.rules.specs.Refusal.{first};
+ghost use Rattle.rules.specs.Calls.{mapTests, reachCall};
 ghost use Rattle.rules.specs.Sampling.{isRgba32};
-ghost use Rattle.rdp.specs.View.{tileOf};
+ghost use Rattle.rdp.specs.View.{tileOf, refusalAnswered};
 ghost use Rattle.tmem.specs.InRange.{InRange};
 use crate::extent;
+use crate::fresh;
 use crate::map;
+use rdp::refusal;
+use rdp::tile;
 use rdp::tile::TileDescriptor;
+use tile_sampling::sampling::TileSampling;
 
 // The pair (0,3), whose texels lie in both halves of the bank.
 fn is_rgba32(tile: TileDescriptor) -> bool
@@ -130,4 +137,41 @@ fn mark_whole(map: &mut [u8], tile: TileDescriptor, tlut: u32)
     for at in 0..end {
         mark_doubled(map, tile, tlut, at);
     }
+}
+
+// The map has the marks of the reach and no others.
+fn mark_reach(map: &mut [u8], tile: TileDescriptor, tlut: u32)
+    requires { ⌜ length (now map) ≡ 512 ⌝ }
+    requires { ⌜ InRange (tileOf tile) ⌝ }
+    ensures { λ _. ⌜ now (map .exit) ≡ reachMap (tileOf tile) tlut ⌝ }
+{
+    fresh::clear(map);
+    let sampling = TileSampling::from_tile(tile, tlut);
+    if sampling.lookup {
+        mark_whole(map, tile, tlut);
+    } else {
+        mark_plain(map, tile, tlut);
+    }
+}
+
+// The refusal of a call on a map, a tile and a mode: 1, 2, 3.
+pub(crate) fn map_refusal(map: &[u8], tile: TileDescriptor, tlut: u32) -> u32
+    ensures { λ r. ⌜ r ≡ first (mapTests (now (map .entry)) (tileOf tile) tlut) ⌝ }
+{
+    if map.len() != 512 {
+        return refusal::LENGTH;
+    }
+    tile::tile_and_mode_refusal(tile, tlut)
+}
+
+// The reach map of a tile, overwritten whole, or the refusal with the map as it was lent.
+pub fn reach(tile: TileDescriptor, tlut: u32, map: &mut [u8]) -> u32
+    ensures { λ r. ⌜ refusalAnswered r (now (map .exit) ∷ []) ≡ reachCall (tileOf tile) tlut (now (map .entry)) ⌝ }
+{
+    let no = map_refusal(map, tile, tlut);
+    if no != 0 {
+        return no;
+    }
+    mark_reach(map, tile, tlut);
+    0
 }
