@@ -1,9 +1,9 @@
 -- Bounds of a reach: where its addresses wrap, how many there are of a row, and how many rows.
 use mathlib.Core.Path.{_≡_, refl, ap, sym, _∙_}
 use mathlib.Core.Bool.{Bool, true, false, cond, _&&_, _||_, true≢false}
-use mathlib.Core.List.{List}
-use Prim.Native.Nat.{ℕ, _+_, _-_, _*_, _/_, _%_, _^_, _<_, _≤_, min, max}
-use native.Mathlib.Nat.{div-le-self, mod-lt}
+use mathlib.Core.List.{List, [], _∷_}
+use Prim.Native.Nat.{ℕ, _+_, _-_, _*_, _/_, _^_, _<_, _≤_, min, max}
+use native.Mathlib.Nat.{div-le-self}
 use native.Mathlib.Omega.{arith}
 use lib.Bits.{bitXor, bitAnd, xor-add-and}
 use lib.Dec.{ltb, leb}
@@ -13,7 +13,7 @@ use Rattle.rules.specs.Sampling.{isRgba32, flag}
 use Rattle.rules.specs.Texdec.{tlut}
 use Rattle.rules.specs.Picture.{swapOdd}
 use Rattle.rules.specs.Reach.{trailingZeros, rowBytes, rowPeriod, reachRows, modulus, xStep, xCount, doubled, reachPlain, reachWhole, reach, reachMap}
-use Rattle.rules.specs.Base.{marked, marks}
+use Rattle.rules.specs.Base.{any, marked, marks}
 
 -- a choice between two numbers lies where both do
 between : (b : Bool) (x y low high : ℕ) → (low ≤ x) × (x ≤ high) → (low ≤ y) × (y ≤ high) → (low ≤ cond b x y) × (cond b x y ≤ high)
@@ -32,10 +32,6 @@ doubles t mode = ltb mode 2 && isRgba32 (t .fmt) (t .siz)
 module _ (t : Tile) (mode : ℕ) where
   pub modulus-bounds : (2048 ≤ modulus t mode) × (modulus t mode ≤ 4096)
   modulus-bounds = between (tlut mode || isRgba32 (t .fmt) (t .siz)) 2048 4096 2048 4096 (omega arith) (omega arith)
-
-  -- an address lies below it
-  pub wrapped : (n : ℕ) → n % modulus t mode < modulus t mode
-  wrapped n = mod-lt n (omega (arith, modulus-bounds))
 
   -- where addresses are doubled they lie in the lower half
   pub modulus-doubled : doubles t mode ≡ true → modulus t mode ≡ 2048
@@ -74,6 +70,28 @@ module _ (t : Tile) (mode at : ℕ) (map : List ℕ) where
   pub mark-one : doubles t mode ≡ false → marks map (doubled t mode at) ≡ marked map at
   unfolding doubled marks
   mark-one h = rw h
+
+-- what a search for p finds at an address and its double
+module _ (t : Tile) (mode at : ℕ) (p : ℕ → Bool) where
+  pub found-first : p at ≡ true → any p (doubled t mode at) ≡ true
+  unfolding doubled any
+  found-first h = go (doubles t mode)
+    where
+      go : (b : Bool) → any p (cond b (at ∷ (at + 2048) ∷ []) (at ∷ [])) ≡ true
+      go true = rw h
+      go false = rw h
+
+  pub found-second : p at ≡ false → doubles t mode ≡ true → any p (doubled t mode at) ≡ p (at + 2048)
+  unfolding doubled any
+  found-second h d = rw (d, h) (or-none (p (at + 2048)))
+    where
+      or-none : (b : Bool) → (b || false) ≡ b
+      or-none true = refl
+      or-none false = refl
+
+  pub found-none : p at ≡ false → doubles t mode ≡ false → any p (doubled t mode at) ≡ false
+  unfolding doubled any
+  found-none h d = rw (d, h)
 
 -- which list is the reach
 module _ (t : Tile) (mode : ℕ) where

@@ -74,6 +74,7 @@ pub(crate) fn reach_address(tile: TileDescriptor, tlut: u32, y: usize, i: usize)
     requires { ⌜ InRange (tileOf tile) ⌝ }
     requires { ⌜ (y < 4096) × (i < 4096) ⌝ }
     ensures { λ r. ⌜ r ≡ address (modulus (tileOf tile) tlut) (8 * tile .«tmem_addr» .0) (odd y) (y * (8 * tile .line .0) + xStep (tileOf tile) tlut * i) ⌝ }
+    ensures { λ r. ⌜ r < modulus (tileOf tile) tlut ⌝ }
 {
     let base = tile.tmem_addr.bytes();
     let stride = tile.line.bytes();

@@ -2,7 +2,7 @@
 use mathlib.Core.Path.{_≡_}
 use Prim.Native.Nat.{ℕ, _+_, _*_, _%_, _≤_}
 use lib.Dec.{eqb}
-use native.Mathlib.Nat.{mul-le-mul}
+use native.Mathlib.Nat.{mul-le-mul, mod-lt}
 use native.Mathlib.Omega.{arith}
 use borrow.Author.Needs.{needs}
 use Rattle.rdp.specs.View.{tileOf}
@@ -58,7 +58,10 @@ rem-result c =
 returns : tie.Need-returns
 returns c =
     let d = c .before .before .before in
-    rw (c .modulus .ensures, c .before .before .swap-odd-line .ensures, d .x-step .ensures, d .before .before .bytes2 .ensures, d .before .before .before .bytes .ensures)
+    let below = mod-lt (d .before .before .before .bytes .result .0 + c .before .before .swap-odd-line .result) (rem-result c) in (
+      rw (c .modulus .ensures, c .before .before .swap-odd-line .ensures, d .x-step .ensures, d .before .before .bytes2 .ensures, d .before .before .before .bytes .ensures),
+      omega (arith, below, c .modulus .ensures),
+    )
 
 pub reach-address-spec : {M : Type 1} → statement M
 reach-address-spec =
