@@ -6,6 +6,7 @@ use Prim.Native.Nat.{ℕ, zero, suc, _+_, _<_}
 use native.Mathlib.Decide.{ℕ-discrete}
 use native.Mathlib.Numerals.{add-one}
 use native.Mathlib.Omega.{arith}
+use lib.ListN.{replicate}
 use Rattle.rules.specs.Base.{tab, tabFrom, concat, any, marks}
 use Rattle.rules.proofs.Tables.{concat-more}
 use Rattle.rules.proofs.Maps.{marks-append}
@@ -17,6 +18,10 @@ marks-none m f = refl
 pub marks-more : (m : List ℕ) (f : ℕ → List ℕ) (n : ℕ) (now next : List ℕ)
     → now ≡ marks m (concat (tab n f)) → next ≡ marks now (f n) → next ≡ marks m (concat (tab (n + 1) f))
 marks-more m f n now next p q = rw (concat-more, marks-append, ← p, q)
+
+-- a map that was cleared, with the marks of a list
+pub fresh-marks : (n size : ℕ) (l cleared map : List ℕ) → n ≡ size → cleared ≡ replicate n 0 → map ≡ marks cleared l → map ≡ marks (replicate size 0) l
+fresh-marks n size l cleared map e z m = rw (m, z, e)
 
 or-false : (a b : Bool) → a ≡ false → b ≡ false → (a || b) ≡ false
 or-false a b p q = rw (p, q)

@@ -103,8 +103,7 @@ module _ (t : Tile) (mode : ℕ) where
   unfolding reach
   reach-plain h = rw (h, reach)
 
-  -- a cleared map with that list's marks is the reach map
-  pub reach-map : (n : ℕ) (l cleared map : List ℕ) → n ≡ 512 → cleared ≡ replicate n 0 → map ≡ marks cleared l → reach t mode ≡ l → map ≡ reachMap t mode
+  -- its marks in a fresh map are the reach map
+  pub reach-map : (l : List ℕ) → reach t mode ≡ l → marks (replicate 512 0) l ≡ reachMap t mode
   unfolding reachMap
-  reach-map n l cleared map e z m r =
-      m ∙ ap (λ c. marks c l) (z ∙ ap (λ n. replicate n 0) e) ∙ ap (marks (replicate 512 0)) (sym r)
+  reach-map l r = ap (marks (replicate 512 0)) (sym r)

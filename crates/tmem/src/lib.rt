@@ -2,5 +2,6 @@
 mod extent;
 mod fresh;
 pub mod has_load;
+pub mod lane;
 mod map;
 pub mod reach;

@@ -1,6 +1,7 @@
 -- `tmem::reach::mark_reach` clears the map and marks the list that the flag calls for. Assumes nothing.
 use mathlib.Core.Path.{sym, _∙_}
 use Rattle.rdp.specs.View.{tileOf}
+use Rattle.tmem.proofs.Joined.{fresh-marks}
 use Rattle.tmem.proofs.Reached.{reach-whole, reach-plain, reach-map}
 use borrow.Author.Needs.{needs}
 use Rattle.tmem.proofs.reach.mark_reach.Statement.{statement}
@@ -26,8 +27,8 @@ returns c =
     let d = c .before .before .before .before in
     let e = d .before .before .before .before in
     let a = e .before .before .before .args in
-    reach-map (tileOf (a .tile)) (a .tlut) _ _ _ _ (e .before .before .before .pre .0) (e .clear .ensures) (c .before .before .mark-whole .ensures)
-    (reach-whole (tileOf (a .tile)) (a .tlut) (sym (d .before .from-tile .ensures .0) ∙ d .if1 .taken))
+    fresh-marks _ 512 _ _ _ (e .before .before .before .pre .0) (e .clear .ensures) (c .before .before .mark-whole .ensures)
+    ∙ reach-map (tileOf (a .tile)) (a .tlut) _ (reach-whole (tileOf (a .tile)) (a .tlut) (sym (d .before .from-tile .ensures .0) ∙ d .if1 .taken))
 
 same-length-2 : tie.Need-same-length-2
 same-length-2 c = search needs
@@ -37,8 +38,8 @@ returns-2 c =
     let d = c .before .before .before .before in
     let e = d .before .before .before .before in
     let a = e .before .before .before .args in
-    reach-map (tileOf (a .tile)) (a .tlut) _ _ _ _ (e .before .before .before .pre .0) (e .clear .ensures) (c .before .before .mark-plain .ensures)
-    (reach-plain (tileOf (a .tile)) (a .tlut) (sym (d .before .from-tile .ensures .0) ∙ d .if1 .left))
+    fresh-marks _ 512 _ _ _ (e .before .before .before .pre .0) (e .clear .ensures) (c .before .before .mark-plain .ensures)
+    ∙ reach-map (tileOf (a .tile)) (a .tlut) _ (reach-plain (tileOf (a .tile)) (a .tlut) (sym (d .before .from-tile .ensures .0) ∙ d .if1 .left))
 
 pub mark-reach-spec : {M : Type 1} → statement M
 mark-reach-spec =
