@@ -9,6 +9,7 @@ ghost use Rattle.rdp.specs.View.{tileOf, yesAnswered};
 ghost use Rattle.tmem.specs.InRange.{InRange};
 use crate::extent;
 use crate::map;
+use crate::place;
 use crate::reach;
 use rdp::answer::YesAnswer;
 use rdp::tile::TileDescriptor;
@@ -23,7 +24,7 @@ fn doubled_meets(written: &[u8], tile: TileDescriptor, tlut: u32, at: usize) -> 
     if map::is_marked(written, at) {
         return true;
     }
-    if reach::is_doubled(tile, tlut) {
+    if place::is_doubled(tile, tlut) {
         return map::is_marked(written, at + 2048);
     }
     false
@@ -36,7 +37,7 @@ fn place_meets(written: &[u8], tile: TileDescriptor, tlut: u32, y: usize, i: usi
     requires { ⌜ (y < 4096) × (i < 4096) ⌝ }
     ensures { λ r. ⌜ r ≡ any (isMarked (now (written .entry))) (reachAt (tileOf tile) tlut y i) ⌝ }
 {
-    doubled_meets(written, tile, tlut, reach::reach_address(tile, tlut, y, i))
+    doubled_meets(written, tile, tlut, place::reach_address(tile, tlut, y, i))
 }
 
 // An address of row y is marked.
@@ -46,7 +47,7 @@ fn row_meets(written: &[u8], tile: TileDescriptor, tlut: u32, y: usize) -> bool
     requires { ⌜ y < 4096 ⌝ }
     ensures { λ r. ⌜ r ≡ any (isMarked (now (written .entry))) (reachRow (tileOf tile) tlut y) ⌝ }
 {
-    let count = reach::x_count(tile, tlut);
+    let count = place::x_count(tile, tlut);
     for i in 0..count {
         if place_meets(written, tile, tlut, y, i) {
             return true;
@@ -75,7 +76,7 @@ fn whole_meets(written: &[u8], tile: TileDescriptor, tlut: u32) -> bool
     requires { ⌜ length (now written) ≡ 512 ⌝ }
     ensures { λ r. ⌜ r ≡ any (isMarked (now (written .entry))) (reachWhole (tileOf tile) tlut) ⌝ }
 {
-    let end = reach::modulus(tile, tlut);
+    let end = place::modulus(tile, tlut);
     for at in 0..end {
         if doubled_meets(written, tile, tlut, at) {
             return true;

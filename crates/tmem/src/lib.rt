@@ -4,4 +4,5 @@ mod fresh;
 pub mod has_load;
 pub mod lane;
 mod map;
+mod place;
 pub mod reach;

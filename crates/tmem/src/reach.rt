@@ -1,86 +1,22 @@
-// The addresses that a tile can reach, in their order, marked in a map.
-ghost use mathlib.Core.Path.{_≡_};
-ghost use mathlib.Core.Bool.{_&&_};
-ghost use Prim.Native.Nat.{_+_, _*_, _<_, _%_};
-ghost use lib.Dec.{ltb};
-ghost use lib.ListN.{length};
+// The reach of a tile: every address that it can read, marked in a map in the order of the rule's list.
 ghost use mathlib.Core.List.{[], _∷_};
-ghost use Rattle.rules.specs.Base.{odd, marks};
-ghost use Rattle.rules.specs.Picture.{address, swapOdd};
-ghost use Rattle.rules.specs.Reach.{modulus, doubled, xStep, xCount, reachAt, reachRow, reachPlain, reachWhole, reachMap};
-ghost use Rattle.rules.specs.Refusal.{first};
+ghost use mathlib.Core.Path.{_≡_};
+ghost use Prim.Native.Nat.{_<_};
+ghost use lib.ListN.{length};
+ghost use Rattle.rules.specs.Base.{marks};
 ghost use Rattle.rules.specs.Calls.{mapTests, reachCall};
-ghost use Rattle.rules.specs.Sampling.{isRgba32};
+ghost use Rattle.rules.specs.Reach.{modulus, doubled, reachAt, reachRow, reachPlain, reachWhole, reachMap};
+ghost use Rattle.rules.specs.Refusal.{first};
 ghost use Rattle.rdp.specs.View.{tileOf, refusalAnswered};
 ghost use Rattle.tmem.specs.InRange.{InRange};
 use crate::extent;
 use crate::fresh;
 use crate::map;
+use crate::place;
 use rdp::refusal;
 use rdp::tile;
 use rdp::tile::TileDescriptor;
 use tile_sampling::sampling::TileSampling;
-
-// The pair (0,3), whose texels lie in both halves of the bank.
-fn is_rgba32(tile: TileDescriptor) -> bool
-    ensures { λ r. ⌜ r ≡ isRgba32 (tile .fmt) (tile .siz) ⌝ }
-{
-    (tile.fmt == 0) & (tile.siz == 3)
-}
-
-// Where addresses wrap: at the bank's end, or at the palette.
-pub(crate) fn modulus(tile: TileDescriptor, tlut: u32) -> usize
-    ensures { λ r. ⌜ r ≡ modulus (tileOf tile) tlut ⌝ }
-{
-    if (2 <= tlut) | is_rgba32(tile) {
-        2048
-    } else {
-        4096
-    }
-}
-
-// Each address stands for one in the upper half as well.
-pub(crate) fn is_doubled(tile: TileDescriptor, tlut: u32) -> bool
-    ensures { λ r. ⌜ r ≡ (ltb tlut 2 && isRgba32 (tile .fmt) (tile .siz)) ⌝ }
-{
-    (tlut < 2) & is_rgba32(tile)
-}
-
-// The step from one x of a row to the next.
-fn x_step(tile: TileDescriptor, tlut: u32) -> usize
-    ensures { λ r. ⌜ r ≡ xStep (tileOf tile) tlut ⌝ }
-{
-    if (2 <= tlut) & (2 <= tile.siz) { 2 } else { 1 }
-}
-
-// How many x of a row are taken.
-pub(crate) fn x_count(tile: TileDescriptor, tlut: u32) -> usize
-    requires { ⌜ InRange (tileOf tile) ⌝ }
-    ensures { λ r. ⌜ r ≡ xCount (tileOf tile) tlut ⌝ }
-{
-    let step = x_step(tile, tlut);
-    (extent::row_bytes(tile) + (step - 1)) / step
-}
-
-// On odd rows the two halves of a word are swapped.
-fn swap_odd_line(rel: usize, odd: bool) -> usize
-    ensures { λ r. ⌜ r ≡ swapOdd odd rel ⌝ }
-{
-    if odd { rel ^ 4 } else { rel }
-}
-
-// The address at the i-th x of row y.
-pub(crate) fn reach_address(tile: TileDescriptor, tlut: u32, y: usize, i: usize) -> usize
-    requires { ⌜ InRange (tileOf tile) ⌝ }
-    requires { ⌜ (y < 4096) × (i < 4096) ⌝ }
-    ensures { λ r. ⌜ r ≡ address (modulus (tileOf tile) tlut) (8 * tile .«tmem_addr» .0) (odd y) (y * (8 * tile .line .0) + xStep (tileOf tile) tlut * i) ⌝ }
-    ensures { λ r. ⌜ r < modulus (tileOf tile) tlut ⌝ }
-{
-    let base = tile.tmem_addr.bytes();
-    let stride = tile.line.bytes();
-    let rel = y * stride.0 + x_step(tile, tlut) * i;
-    (base.0 + swap_odd_line(rel, y % 2 == 1)) % modulus(tile, tlut)
-}
 
 // An address is marked, and the one that it stands for in the upper half.
 fn mark_doubled(map: &mut [u8], tile: TileDescriptor, tlut: u32, at: usize)
@@ -89,7 +25,7 @@ fn mark_doubled(map: &mut [u8], tile: TileDescriptor, tlut: u32, at: usize)
     ensures { λ _. ⌜ now (map .exit) ≡ marks (now (map .entry)) (doubled (tileOf tile) tlut at) ⌝ }
 {
     map::mark_at(map, at);
-    if is_doubled(tile, tlut) {
+    if place::is_doubled(tile, tlut) {
         map::mark_at(map, at + 2048);
     }
 }
@@ -101,7 +37,7 @@ fn mark_place(map: &mut [u8], tile: TileDescriptor, tlut: u32, y: usize, i: usiz
     requires { ⌜ (y < 4096) × (i < 4096) ⌝ }
     ensures { λ _. ⌜ now (map .exit) ≡ marks (now (map .entry)) (reachAt (tileOf tile) tlut y i) ⌝ }
 {
-    mark_doubled(map, tile, tlut, reach_address(tile, tlut, y, i));
+    mark_doubled(map, tile, tlut, place::reach_address(tile, tlut, y, i));
 }
 
 // The addresses of row y are marked.
@@ -111,7 +47,7 @@ fn mark_row(map: &mut [u8], tile: TileDescriptor, tlut: u32, y: usize)
     requires { ⌜ y < 4096 ⌝ }
     ensures { λ _. ⌜ now (map .exit) ≡ marks (now (map .entry)) (reachRow (tileOf tile) tlut y) ⌝ }
 {
-    let count = x_count(tile, tlut);
+    let count = place::x_count(tile, tlut);
     for i in 0..count {
         mark_place(map, tile, tlut, y, i);
     }
@@ -134,7 +70,7 @@ fn mark_whole(map: &mut [u8], tile: TileDescriptor, tlut: u32)
     requires { ⌜ length (now map) ≡ 512 ⌝ }
     ensures { λ _. ⌜ now (map .exit) ≡ marks (now (map .entry)) (reachWhole (tileOf tile) tlut) ⌝ }
 {
-    let end = modulus(tile, tlut);
+    let end = place::modulus(tile, tlut);
     for at in 0..end {
         mark_doubled(map, tile, tlut, at);
     }

@@ -1,10 +1,10 @@
--- `tmem::reach::modulus` goes by the rule's test. Assumes nothing.
+-- `tmem::place::modulus` goes by the rule's test. Assumes nothing.
 use mathlib.Core.Path.{_≡_, ap, sym, _∙_}
 use mathlib.Core.Bool.{cond, _||_}
 use borrow.Author.Needs.{needs}
 use Rattle.rules.specs.Texdec.{tlut}
-use Rattle.tmem.proofs.reach.modulus.Statement.{statement}
-use Rattle.tmem.proofs.reach.modulus.Tie as tie
+use Rattle.tmem.proofs.place.modulus.Statement.{statement}
+use Rattle.tmem.proofs.place.modulus.Tie as tie
 
 is-rgba32-requires : tie.Need-is-rgba32-requires
 is-rgba32-requires c κs = search needs

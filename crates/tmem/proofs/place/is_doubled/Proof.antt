@@ -1,7 +1,7 @@
--- `tmem::reach::is_doubled` is the rule's test. Assumes nothing.
+-- `tmem::place::is_doubled` is the rule's test. Assumes nothing.
 use borrow.Author.Needs.{needs}
-use Rattle.tmem.proofs.reach.is_doubled.Statement.{statement}
-use Rattle.tmem.proofs.reach.is_doubled.Tie as tie
+use Rattle.tmem.proofs.place.is_doubled.Statement.{statement}
+use Rattle.tmem.proofs.place.is_doubled.Tie as tie
 
 is-rgba32-requires : tie.Need-is-rgba32-requires
 is-rgba32-requires c κs = search needs

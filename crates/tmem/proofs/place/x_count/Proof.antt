@@ -1,4 +1,4 @@
--- `tmem::reach::x_count` divides as the rule does, by a step of 1 or 2. Assumes nothing.
+-- `tmem::place::x_count` divides as the rule does, by a step of 1 or 2. Assumes nothing.
 use mathlib.Core.Path.{_≡_}
 use Prim.Native.Nat.{_≤_, _<_}
 use native.Mathlib.Omega.{arith}
@@ -6,8 +6,8 @@ use borrow.Author.Needs.{needs}
 use Rattle.rules.specs.Reach.{rowBytes}
 use Rattle.rdp.specs.View.{tileOf}
 use Rattle.tmem.proofs.Reached.{step-bounds, row-bytes-le}
-use Rattle.tmem.proofs.reach.x_count.Statement.{statement}
-use Rattle.tmem.proofs.reach.x_count.Tie as tie
+use Rattle.tmem.proofs.place.x_count.Statement.{statement}
+use Rattle.tmem.proofs.place.x_count.Tie as tie
 
 x-step-requires : tie.Need-x-step-requires
 x-step-requires c κs = search needs

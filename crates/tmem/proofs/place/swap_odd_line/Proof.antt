@@ -1,6 +1,6 @@
--- `tmem::reach::swap_odd_line` goes by the rule's case. Assumes nothing.
-use Rattle.tmem.proofs.reach.swap_odd_line.Statement.{statement}
-use Rattle.tmem.proofs.reach.swap_odd_line.Tie as tie
+-- `tmem::place::swap_odd_line` goes by the rule's case. Assumes nothing.
+use Rattle.tmem.proofs.place.swap_odd_line.Statement.{statement}
+use Rattle.tmem.proofs.place.swap_odd_line.Tie as tie
 
 returns : tie.Need-returns
 returns c = rw (c .if1 .taken)
