@@ -29,7 +29,7 @@ loop-holds c = (omega arith, none-yet _ _)
 place-meets-requires : tie.Need-place-meets-requires Inv-loop μ-loop
 place-meets-requires c κs =
     let d = c .before .before .before .before in
-    (d .pre .0, (d .pre .1 .0, (d .pre .1 .1, omega (arith, count-le (tileOf (d .args .tile)) (d .args .tlut)))))
+    (d .pre .0, (d .pre .1 .0, (omega arith, omega (arith, count-le (tileOf (d .args .tile)) (d .args .tlut)))))
 
 returns : tie.Need-returns Inv-loop μ-loop
 unfolding reachRow
