@@ -4,7 +4,7 @@ ghost use Prim.Native.Nat.{_<_};
 ghost use lib.ListN.{length};
 ghost use Rattle.rules.specs.Base.{any, isMarked};
 ghost use Rattle.rules.specs.Calls.{hasLoadCall};
-ghost use Rattle.rules.specs.Reach.{modulus, doubled, reachAt, reachRow, reachPlain, reachWhole, hasLoad};
+ghost use Rattle.rules.specs.Reach.{modulus, doubled, xCount, reachAt, reachRow, reachPlain, reachWhole, hasLoad};
 ghost use Rattle.rdp.specs.View.{tileOf, yesAnswered};
 ghost use Rattle.tmem.specs.InRange.{InRange};
 use crate::extent;
@@ -40,14 +40,13 @@ fn place_meets(written: &[u8], tile: TileDescriptor, tlut: u32, y: usize, i: usi
     doubled_meets(written, tile, tlut, place::reach_address(tile, tlut, y, i))
 }
 
-// An address of row y is marked.
-fn row_meets(written: &[u8], tile: TileDescriptor, tlut: u32, y: usize) -> bool
+// An address of row y is marked; count is the number of its places.
+fn row_meets(written: &[u8], tile: TileDescriptor, tlut: u32, y: usize, count: usize) -> bool
     requires { ⌜ length (now written) ≡ 512 ⌝ }
     requires { ⌜ InRange (tileOf tile) ⌝ }
-    requires { ⌜ y < 4096 ⌝ }
+    requires { ⌜ (y < 4096) × (count ≡ xCount (tileOf tile) tlut) ⌝ }
     ensures { λ r. ⌜ r ≡ any (isMarked (now (written .entry))) (reachRow (tileOf tile) tlut y) ⌝ }
 {
-    let count = place::x_count(tile, tlut);
     for i in 0..count {
         if place_meets(written, tile, tlut, y, i) {
             return true;
@@ -62,9 +61,10 @@ fn plain_meets(written: &[u8], tile: TileDescriptor, tlut: u32) -> bool
     requires { ⌜ InRange (tileOf tile) ⌝ }
     ensures { λ r. ⌜ r ≡ any (isMarked (now (written .entry))) (reachPlain (tileOf tile) tlut) ⌝ }
 {
+    let count = place::x_count(tile, tlut);
     let rows = extent::reach_rows(tile);
     for y in 0..rows {
-        if row_meets(written, tile, tlut, y) {
+        if row_meets(written, tile, tlut, y, count) {
             return true;
         }
     }

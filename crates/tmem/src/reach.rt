@@ -5,7 +5,7 @@ ghost use Prim.Native.Nat.{_<_};
 ghost use lib.ListN.{length};
 ghost use Rattle.rules.specs.Base.{marks};
 ghost use Rattle.rules.specs.Calls.{mapTests, reachCall};
-ghost use Rattle.rules.specs.Reach.{modulus, doubled, reachAt, reachRow, reachPlain, reachWhole, reachMap};
+ghost use Rattle.rules.specs.Reach.{modulus, doubled, xCount, reachAt, reachRow, reachPlain, reachWhole, reachMap};
 ghost use Rattle.rules.specs.Refusal.{first};
 ghost use Rattle.rdp.specs.View.{tileOf, refusalAnswered};
 ghost use Rattle.tmem.specs.InRange.{InRange};
@@ -40,14 +40,13 @@ fn mark_place(map: &mut [u8], tile: TileDescriptor, tlut: u32, y: usize, i: usiz
     mark_doubled(map, tile, tlut, place::reach_address(tile, tlut, y, i));
 }
 
-// The addresses of row y are marked.
-fn mark_row(map: &mut [u8], tile: TileDescriptor, tlut: u32, y: usize)
+// The addresses of row y are marked; count is the number of its places.
+fn mark_row(map: &mut [u8], tile: TileDescriptor, tlut: u32, y: usize, count: usize)
     requires { ⌜ length (now map) ≡ 512 ⌝ }
     requires { ⌜ InRange (tileOf tile) ⌝ }
-    requires { ⌜ y < 4096 ⌝ }
+    requires { ⌜ (y < 4096) × (count ≡ xCount (tileOf tile) tlut) ⌝ }
     ensures { λ _. ⌜ now (map .exit) ≡ marks (now (map .entry)) (reachRow (tileOf tile) tlut y) ⌝ }
 {
-    let count = place::x_count(tile, tlut);
     for i in 0..count {
         mark_place(map, tile, tlut, y, i);
     }
@@ -59,9 +58,10 @@ fn mark_plain(map: &mut [u8], tile: TileDescriptor, tlut: u32)
     requires { ⌜ InRange (tileOf tile) ⌝ }
     ensures { λ _. ⌜ now (map .exit) ≡ marks (now (map .entry)) (reachPlain (tileOf tile) tlut) ⌝ }
 {
+    let count = place::x_count(tile, tlut);
     let rows = extent::reach_rows(tile);
     for y in 0..rows {
-        mark_row(map, tile, tlut, y);
+        mark_row(map, tile, tlut, y, count);
     }
 }
 

@@ -14,11 +14,14 @@ use Rattle.tmem.proofs.has_load.plain_meets.Statement.{statement}
 use Rattle.tmem.proofs.has_load.plain_meets.Tie as tie
 
 abbrev Inv-loop : tie.InvT-loop
-Inv-loop written tile tlut rows y₀ y =
+Inv-loop written tile tlut count rows y₀ y =
     (y ≤ rows) × (any (isMarked written) (concat (tab y (reachRow (tileOf tile) tlut))) ≡ false)
 
 abbrev μ-loop : tie.MeasureT-loop
-μ-loop written tile tlut rows y₀ y = rows - y
+μ-loop written tile tlut count rows y₀ y = rows - y
+
+x-count-requires : tie.Need-x-count-requires Inv-loop μ-loop
+x-count-requires c κs = search needs
 
 reach-rows-requires : tie.Need-reach-rows-requires Inv-loop μ-loop
 reach-rows-requires c κs = search needs
@@ -28,8 +31,9 @@ loop-holds c = (omega arith, none-yet _ _)
 
 row-meets-requires : tie.Need-row-meets-requires Inv-loop μ-loop
 row-meets-requires c κs =
-    let d = c .before .before .before .before in
-    (d .pre .0, (d .pre .1, omega (arith, rows-le (tileOf (d .args .tile)))))
+    let e = c .before .before .before in
+    let d = e .before .before in
+    (d .pre .0, (d .pre .1, (omega (arith, rows-le (tileOf (d .args .tile))), e .x-count .ensures)))
 
 returns : tie.Need-returns Inv-loop μ-loop
 unfolding reachPlain
@@ -58,6 +62,7 @@ plain-meets-spec =
     (tie.spec
     Inv-loop
     μ-loop
+    x-count-requires
     reach-rows-requires
     loop-holds
     row-meets-requires

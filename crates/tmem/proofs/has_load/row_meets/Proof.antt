@@ -20,15 +20,12 @@ Inv-loop written tile tlut y count i₀ i =
 abbrev μ-loop : tie.MeasureT-loop
 μ-loop written tile tlut y count i₀ i = count - i
 
-x-count-requires : tie.Need-x-count-requires Inv-loop μ-loop
-x-count-requires c κs = search needs
-
 loop-holds : tie.Need-loop-holds Inv-loop μ-loop
 loop-holds c = (omega arith, none-yet _ _)
 
 place-meets-requires : tie.Need-place-meets-requires Inv-loop μ-loop
 place-meets-requires c κs =
-    let d = c .before .before .before .before in
+    let d = c .before .before .before in
     (d .pre .0, (d .pre .1 .0, (omega arith, omega (arith, count-le (tileOf (d .args .tile)) (d .args .tlut)))))
 
 returns : tie.Need-returns Inv-loop μ-loop
@@ -49,8 +46,9 @@ loop-again c =
 returns-2 : tie.Need-returns-2 Inv-loop μ-loop
 unfolding reachRow
 returns-2 c =
-    let end : c .before .loop .i ≡ c .before .before .x-count .result = omega arith in
-    rw (← c .before .before .x-count .ensures, ← end) (sym (c .before .loop .inv .1))
+    let d = c .before .before .before in
+    let end : c .before .loop .i ≡ d .args .count = omega arith in
+    rw (← d .pre .1 .1 .1, ← end) (sym (c .before .loop .inv .1))
 
 pub row-meets-spec : {M : Type 1} → statement M
 row-meets-spec =
@@ -58,7 +56,6 @@ row-meets-spec =
     (tie.spec
     Inv-loop
     μ-loop
-    x-count-requires
     loop-holds
     place-meets-requires
     returns

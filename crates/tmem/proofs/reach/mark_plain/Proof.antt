@@ -14,22 +14,26 @@ use Rattle.tmem.proofs.reach.mark_plain.Statement.{statement}
 use Rattle.tmem.proofs.reach.mark_plain.Tie as tie
 
 abbrev Inv-loop : tie.InvT-loop
-Inv-loop map₀ tile tlut rows y₀ map y =
+Inv-loop map₀ tile tlut count rows y₀ map y =
     (y ≤ rows) × (map ≡ marks map₀ (concat (tab y (reachRow (tileOf tile) tlut)))) × (length map ≡ 512)
 
 abbrev μ-loop : tie.MeasureT-loop
-μ-loop map₀ tile tlut rows y₀ map y = rows - y
+μ-loop map₀ tile tlut count rows y₀ map y = rows - y
+
+x-count-requires : tie.Need-x-count-requires Inv-loop μ-loop
+x-count-requires c κs = search needs
 
 reach-rows-requires : tie.Need-reach-rows-requires Inv-loop μ-loop
 reach-rows-requires c κs = search needs
 
 loop-holds : tie.Need-loop-holds Inv-loop μ-loop
-loop-holds c = (omega arith, sym (marks-none _ _), c .before .before .pre .0)
+loop-holds c = (omega arith, sym (marks-none _ _), c .before .before .before .pre .0)
 
 mark-row-requires : tie.Need-mark-row-requires Inv-loop μ-loop
 mark-row-requires c κs =
-    let d = c .before .before .before .before .before in
-    (c .before .before .loop .inv .2, (d .pre .1, omega (arith, rows-le (tileOf (d .args .tile)))))
+    let e = c .before .before .before .before in
+    let d = e .before .before in
+    (c .before .before .loop .inv .2, (d .pre .1, (omega (arith, rows-le (tileOf (d .args .tile))), e .x-count .ensures)))
 
 add-y : tie.Need-add-y Inv-loop μ-loop
 add-y c = search needs
@@ -57,6 +61,7 @@ mark-plain-spec =
     (tie.spec
     Inv-loop
     μ-loop
+    x-count-requires
     reach-rows-requires
     loop-holds
     mark-row-requires

@@ -20,17 +20,13 @@ Inv-loop map₀ tile tlut y count i₀ map i =
 abbrev μ-loop : tie.MeasureT-loop
 μ-loop map₀ tile tlut y count i₀ map i = count - i
 
-x-count-requires : tie.Need-x-count-requires Inv-loop μ-loop
-x-count-requires c κs = search needs
-
 loop-holds : tie.Need-loop-holds Inv-loop μ-loop
-loop-holds c = (omega arith, sym (marks-none _ _), c .before .before .pre .0)
+loop-holds c = (omega arith, sym (marks-none _ _), c .before .pre .0)
 
 mark-place-requires : tie.Need-mark-place-requires Inv-loop μ-loop
 mark-place-requires c κs =
-    let a = c .before .before .before .before .before .args in
-    let p = c .before .before .before .before .before .pre in
-    (c .before .before .loop .inv .2, (p .1 .0, (p .1 .1, omega (arith, count-le (tileOf (a .tile)) (a .tlut)))))
+    let d = c .before .before .before .before in
+    (c .before .before .loop .inv .2, (d .pre .1 .0, (omega arith, omega (arith, count-le (tileOf (d .args .tile)) (d .args .tlut)))))
 
 add-i : tie.Need-add-i Inv-loop μ-loop
 add-i c = search needs
@@ -49,8 +45,9 @@ same-length c = search needs
 returns : tie.Need-returns Inv-loop μ-loop
 unfolding reachRow
 returns c =
-    let end : c .before .loop .i ≡ c .before .before .x-count .result = omega arith in
-    rw (c .before .loop .inv .1, end, c .before .before .x-count .ensures)
+    let d = c .before .before .before in
+    let end : c .before .loop .i ≡ d .args .count = omega arith in
+    rw (c .before .loop .inv .1, end, d .pre .1 .1 .1)
 
 pub mark-row-spec : {M : Type 1} → statement M
 mark-row-spec =
@@ -58,7 +55,6 @@ mark-row-spec =
     (tie.spec
     Inv-loop
     μ-loop
-    x-count-requires
     loop-holds
     mark-place-requires
     add-i
