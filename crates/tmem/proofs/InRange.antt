@@ -8,7 +8,7 @@ use lib.Dec.{ltb}
 use lib.ListN.{length}
 use lib.Pow.{pow-mono}
 use borrow.Author.Tests.{ltb-false, eqb-true, not-false}
-use Rattle.rules.specs.Tile.{Tile, loadFieldsOutside, tileOutside}
+use Rattle.rules.specs.Tile.{Tile, sideLimit, loadFieldsOutside, tileOutside}
 use Rattle.rules.specs.Reach.{extent}
 use Rattle.rules.specs.Sampling.{repeats}
 use Rattle.rules.specs.Refusal.{first}
@@ -39,8 +39,9 @@ none a (b ∷ l) h =
 
 pub in-range : (t : Tile) → tileOutside t ≡ false → InRange t
 in-range t h =
-    let all = none (loadFieldsOutside t)
-    (ltb 15 (t .palette) ∷ ltb 3 (t .cms) ∷ ltb 3 (t .cmt) ∷ ltb 15 (t .masks) ∷ ltb 15 (t .maskt) ∷ ltb 1024 (t .width) ∷ ltb 1024 (t .height) ∷ []) h in
+    let all =
+    none (loadFieldsOutside t)
+    (ltb 15 (t .palette) ∷ ltb 3 (t .cms) ∷ ltb 3 (t .cmt) ∷ ltb 15 (t .masks) ∷ ltb 15 (t .maskt) ∷ ltb sideLimit (t .width) ∷ ltb sideLimit (t .height) ∷ []) h in
     let load = none (ltb 7 (t .fmt)) (ltb 3 (t .siz) ∷ ltb 511 (t .line) ∷ ltb 511 (t .tmem-addr) ∷ []) (all .0) in
     record {
       line = ltb-false _ _ (load .1 .1 .0);
@@ -59,7 +60,7 @@ within map t mode h =
     (eqb-true _ _ (not-false _ (p .0)), in-range t (p .1 .0))
 
 -- an axis reaches 2^15 at most
-pub extent-le : (cm mask size : ℕ) → mask ≤ 15 → size ≤ 1024 → extent cm mask size ≤ 32768
+pub extent-le : (cm mask size : ℕ) → mask ≤ 15 → size ≤ sideLimit → extent cm mask size ≤ 32768
 extent-le cm mask size m s = go (repeats cm mask)
   where
     go : (b : Bool) → cond b (2 ^ mask) (max size 1) ≤ 32768

@@ -1,19 +1,19 @@
--- Bounds of a reach: where its addresses wrap, how many there are of a row, and how many rows.
-use mathlib.Core.Path.{_≡_, refl, ap, sym, _∙_}
+-- Laws of a reach: its bounds, what is marked and found at an address and its double, and which list it is.
+use mathlib.Core.Path.{_≡_, refl, ap, sym}
 use mathlib.Core.Bool.{Bool, true, false, cond, _&&_, _||_, true≢false}
 use mathlib.Core.List.{List, [], _∷_}
-use Prim.Native.Nat.{ℕ, _+_, _-_, _*_, _/_, _^_, _<_, _≤_, min, max}
+use Prim.Native.Nat.{ℕ, _+_, _-_, _*_, _/_, _^_, _≤_}
 use native.Mathlib.Nat.{div-le-self}
 use native.Mathlib.Omega.{arith}
-use lib.Bits.{bitXor, bitAnd, xor-add-and}
+use lib.Bits.{xor-add-and}
 use lib.Dec.{ltb, leb}
 use lib.ListN.{replicate}
+use Rattle.rules.specs.Base.{any, marked, marks}
 use Rattle.rules.specs.Tile.{Tile}
-use Rattle.rules.specs.Sampling.{isRgba32, flag}
 use Rattle.rules.specs.Texdec.{tlut}
+use Rattle.rules.specs.Sampling.{isRgba32, flag}
 use Rattle.rules.specs.Picture.{swapOdd}
 use Rattle.rules.specs.Reach.{trailingZeros, rowBytes, rowPeriod, reachRows, modulus, xStep, xCount, doubled, reachPlain, reachWhole, reach, reachMap}
-use Rattle.rules.specs.Base.{any, marked, marks}
 
 -- a choice between two numbers lies where both do
 between : (b : Bool) (x y low high : ℕ) → (low ≤ x) × (x ≤ high) → (low ≤ y) × (y ≤ high) → (low ≤ cond b x y) × (cond b x y ≤ high)
@@ -24,6 +24,10 @@ between false x y low high p q = q
 pub swap-le : (swap : Bool) (rel : ℕ) → swapOdd swap rel ≤ rel + 4
 swap-le true rel = omega (arith, xor-add-and rel 4)
 swap-le false rel = omega arith
+
+pub row-bytes-le : (t : Tile) → rowBytes t ≤ 4096
+unfolding rowBytes
+row-bytes-le t = omega arith
 
 -- an address stands for one in the upper half as well
 abbrev pub doubles : Tile → ℕ → Bool
@@ -46,12 +50,8 @@ module _ (t : Tile) (mode : ℕ) where
   pub step-bounds : (1 ≤ xStep t mode) × (xStep t mode ≤ 2)
   step-bounds = between (tlut mode && leb 2 (t .siz)) 2 1 1 2 (omega arith) (omega arith)
 
-  pub row-bytes-le : rowBytes t ≤ 4096
-  unfolding rowBytes
-  row-bytes-le = omega arith
-
   pub count-le : xCount t mode ≤ 4096
-  count-le = go (tlut mode && leb 2 (t .siz)) (rowBytes t) row-bytes-le
+  count-le = go (tlut mode && leb 2 (t .siz)) (rowBytes t) (row-bytes-le t)
     where
       go : (b : Bool) (n : ℕ) → n ≤ 4096 → (n + (cond b 2 1 - 1)) / cond b 2 1 ≤ 4096
       go true n h = omega arith

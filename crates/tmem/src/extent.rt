@@ -5,7 +5,6 @@ ghost use Rattle.rules.specs.Reach.{extent, sizedBytes, rowBytes, rowPeriod, re
 ghost use Rattle.rdp.specs.View.{tileOf};
 ghost use Rattle.tmem.specs.InRange.{InRange};
 use rdp::tile::TileDescriptor;
-use rdp::units::ByteAddr;
 
 // The smaller of two numbers.
 fn lesser(a: usize, b: usize) -> usize

@@ -1,7 +1,6 @@
 -- `tmem::has_load::reach_meets` searches the list that the flag calls for. Assumes nothing.
-use mathlib.Core.Path.{ap, sym, _∙_}
+use mathlib.Core.Path.{sym, _∙_}
 use borrow.Author.Needs.{needs}
-use Rattle.rules.specs.Base.{any, isMarked}
 use Rattle.rules.specs.Reach.{hasLoad}
 use Rattle.rdp.specs.View.{tileOf}
 use Rattle.tmem.proofs.Reached.{reach-whole, reach-plain}

@@ -1,8 +1,5 @@
 -- `tmem::place::modulus` goes by the rule's test. Assumes nothing.
-use mathlib.Core.Path.{_≡_, ap, sym, _∙_}
-use mathlib.Core.Bool.{cond, _||_}
 use borrow.Author.Needs.{needs}
-use Rattle.rules.specs.Texdec.{tlut}
 use Rattle.tmem.proofs.place.modulus.Statement.{statement}
 use Rattle.tmem.proofs.place.modulus.Tie as tie
 

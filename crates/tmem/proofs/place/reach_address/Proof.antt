@@ -1,5 +1,4 @@
 -- `tmem::place::reach_address` computes the rule's address; in range no sum or product comes near 2^64. Assumes nothing.
-use mathlib.Core.Path.{_≡_}
 use Prim.Native.Nat.{ℕ, _+_, _*_, _%_, _≤_}
 use lib.Dec.{eqb}
 use native.Mathlib.Nat.{mul-le-mul, mod-lt}

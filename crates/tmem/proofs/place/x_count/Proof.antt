@@ -1,9 +1,7 @@
 -- `tmem::place::x_count` divides as the rule does, by a step of 1 or 2. Assumes nothing.
-use mathlib.Core.Path.{_≡_}
-use Prim.Native.Nat.{_≤_, _<_}
+use Prim.Native.Nat.{_<_}
 use native.Mathlib.Omega.{arith}
 use borrow.Author.Needs.{needs}
-use Rattle.rules.specs.Reach.{rowBytes}
 use Rattle.rdp.specs.View.{tileOf}
 use Rattle.tmem.proofs.Reached.{step-bounds, row-bytes-le}
 use Rattle.tmem.proofs.place.x_count.Statement.{statement}

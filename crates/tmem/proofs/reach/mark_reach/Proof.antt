@@ -1,9 +1,9 @@
 -- `tmem::reach::mark_reach` clears the map and marks the list that the flag calls for. Assumes nothing.
 use mathlib.Core.Path.{sym, _∙_}
+use borrow.Author.Needs.{needs}
 use Rattle.rdp.specs.View.{tileOf}
 use Rattle.tmem.proofs.Joined.{fresh-marks}
 use Rattle.tmem.proofs.Reached.{reach-whole, reach-plain, reach-map}
-use borrow.Author.Needs.{needs}
 use Rattle.tmem.proofs.reach.mark_reach.Statement.{statement}
 use Rattle.tmem.proofs.reach.mark_reach.Tie as tie
 

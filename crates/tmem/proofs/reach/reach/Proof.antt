@@ -1,11 +1,11 @@
 -- `tmem::reach::reach` answers and leaves the call's outcome. Assumes nothing.
 use mathlib.Core.Path.{_≡_, sym, _∙_}
+use borrow.Author.Needs.{needs}
 use Rattle.rules.specs.Refusal.{first}
 use Rattle.rules.specs.Calls.{mapTests, reachCall}
 use Rattle.rules.proofs.Refused.{refused-is, done-is}
 use Rattle.rdp.specs.View.{tileOf}
 use Rattle.tmem.proofs.InRange.{within}
-use borrow.Author.Needs.{needs}
 use Rattle.tmem.proofs.reach.reach.Statement.{statement}
 use Rattle.tmem.proofs.reach.reach.Tie as tie
 

@@ -1,5 +1,4 @@
 -- `reach_cases::show::Seen::with` wraps no sum: a byte has eight bits at most. Assumes nothing.
-use Prim.Native.Nat.{_≤_}
 use native.Mathlib.Omega.{arith}
 use lib.Count.{ones-le}
 use borrow.Author.Needs.{needs}
