@@ -1,2 +1,8 @@
 // Texture memory, as tmem.rs has it.
+mod extent;
+mod fresh;
+pub mod has_load;
+pub mod lane;
 mod map;
+mod place;
+pub mod reach;

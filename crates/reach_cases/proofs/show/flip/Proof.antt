@@ -1,0 +1,53 @@
+-- `reach_cases::show::flip` stays within the map, whose length does not change. Assumes nothing.
+use mathlib.Core.Path.{_≡_}
+use Prim.Native.Nat.{_≤_, _-_}
+use native.Mathlib.Omega.{arith}
+use lib.ListN.{length, length-set}
+use borrow.Author.Needs.{needs}
+use Rattle.reach_cases.proofs.show.flip.Statement.{statement}
+use Rattle.reach_cases.proofs.show.flip.Tie as tie
+
+abbrev Inv-loop : tie.InvT-loop
+Inv-loop map₀ end i₀ map i = (i ≤ end) × (length map ≡ length map₀)
+
+abbrev μ-loop : tie.MeasureT-loop
+μ-loop map₀ end i₀ map i = end - i
+
+loop-holds : tie.Need-loop-holds Inv-loop μ-loop
+loop-holds c = search needs
+
+slice-read-map : tie.Need-slice-read-map Inv-loop μ-loop
+slice-read-map c = search needs
+
+slice-write-map : tie.Need-slice-write-map Inv-loop μ-loop
+slice-write-map c = search needs
+
+add-i : tie.Need-add-i Inv-loop μ-loop
+add-i c = search needs
+
+loop-less : tie.Need-loop-less Inv-loop μ-loop
+loop-less c = search needs
+
+loop-again : tie.Need-loop-again Inv-loop μ-loop
+loop-again c = simp length-set (omega arith)
+
+same-length : tie.Need-same-length Inv-loop μ-loop
+same-length c = search needs
+
+returns : tie.Need-returns Inv-loop μ-loop
+returns c = search needs
+
+pub flip-spec : {M : Type 1} → statement M
+flip-spec =
+    tie.close
+    (tie.spec
+    Inv-loop
+    μ-loop
+    loop-holds
+    slice-read-map
+    slice-write-map
+    add-i
+    loop-less
+    loop-again
+    same-length
+    returns)
