@@ -1,4 +1,4 @@
 -- Laws that the proofs of this crate cite.
-pub mod InRange
+pub mod Axes
 pub mod Reached
 pub mod Joined

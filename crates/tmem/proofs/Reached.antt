@@ -5,7 +5,6 @@ use mathlib.Core.List.{List, [], _∷_}
 use Prim.Native.Nat.{ℕ, _+_, _-_, _*_, _/_, _^_, _≤_}
 use native.Mathlib.Nat.{div-le-self}
 use native.Mathlib.Omega.{arith}
-use lib.Bits.{xor-add-and}
 use lib.Dec.{ltb, leb}
 use lib.ListN.{replicate}
 use Rattle.rules.specs.Base.{any, marked, marks}
@@ -19,11 +18,6 @@ use Rattle.rules.specs.Reach.{trailingZeros, rowBytes, rowPeriod, reachRows, mo
 between : (b : Bool) (x y low high : ℕ) → (low ≤ x) × (x ≤ high) → (low ≤ y) × (y ≤ high) → (low ≤ cond b x y) × (cond b x y ≤ high)
 between true x y low high p q = p
 between false x y low high p q = q
-
--- the swap moves an address by 4 at most
-pub swap-le : (swap : Bool) (rel : ℕ) → swapOdd swap rel ≤ rel + 4
-swap-le true rel = omega (arith, xor-add-and rel 4)
-swap-le false rel = omega arith
 
 pub row-bytes-le : (t : Tile) → rowBytes t ≤ 4096
 unfolding rowBytes

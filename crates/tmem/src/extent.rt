@@ -3,7 +3,7 @@ ghost use mathlib.Core.Path.{_≡_};
 ghost use Prim.Native.Nat.{_≤_, min, max};
 ghost use Rattle.rules.specs.Reach.{extent, sizedBytes, rowBytes, rowPeriod, reachRows};
 ghost use Rattle.rdp.specs.View.{tileOf};
-ghost use Rattle.tmem.specs.InRange.{InRange};
+ghost use Rattle.rules.specs.Tile.{InRange};
 use rdp::tile::TileDescriptor;
 
 // The smaller of two numbers.

@@ -6,11 +6,11 @@ ghost use Rattle.rules.specs.Base.{any, isMarked};
 ghost use Rattle.rules.specs.Calls.{hasLoadCall};
 ghost use Rattle.rules.specs.Reach.{modulus, doubled, xCount, reachAt, reachRow, reachPlain, reachWhole, hasLoad};
 ghost use Rattle.rdp.specs.View.{tileOf, yesAnswered};
-ghost use Rattle.tmem.specs.InRange.{InRange};
+ghost use Rattle.rules.specs.Tile.{InRange};
 use crate::extent;
 use crate::map;
-use crate::place;
 use crate::reach;
+use crate::reach_place;
 use rdp::answer::YesAnswer;
 use rdp::tile::TileDescriptor;
 use tile_sampling::sampling::TileSampling;
@@ -24,7 +24,7 @@ fn doubled_meets(written: &[u8], tile: TileDescriptor, tlut: u32, at: usize) -> 
     if map::is_marked(written, at) {
         return true;
     }
-    if place::is_doubled(tile, tlut) {
+    if reach_place::is_doubled(tile, tlut) {
         return map::is_marked(written, at + 2048);
     }
     false
@@ -37,7 +37,12 @@ fn place_meets(written: &[u8], tile: TileDescriptor, tlut: u32, y: usize, i: usi
     requires { ⌜ (y < 4096) × (i < 4096) ⌝ }
     ensures { λ r. ⌜ r ≡ any (isMarked (now (written .entry))) (reachAt (tileOf tile) tlut y i) ⌝ }
 {
-    doubled_meets(written, tile, tlut, place::reach_address(tile, tlut, y, i))
+    doubled_meets(
+        written,
+        tile,
+        tlut,
+        reach_place::reach_address(tile, tlut, y, i),
+    )
 }
 
 // An address of row y is marked; count is the number of its places.
@@ -61,7 +66,7 @@ fn plain_meets(written: &[u8], tile: TileDescriptor, tlut: u32) -> bool
     requires { ⌜ InRange (tileOf tile) ⌝ }
     ensures { λ r. ⌜ r ≡ any (isMarked (now (written .entry))) (reachPlain (tileOf tile) tlut) ⌝ }
 {
-    let count = place::x_count(tile, tlut);
+    let count = reach_place::x_count(tile, tlut);
     let rows = extent::reach_rows(tile);
     for y in 0..rows {
         if row_meets(written, tile, tlut, y, count) {
@@ -76,7 +81,7 @@ fn whole_meets(written: &[u8], tile: TileDescriptor, tlut: u32) -> bool
     requires { ⌜ length (now written) ≡ 512 ⌝ }
     ensures { λ r. ⌜ r ≡ any (isMarked (now (written .entry))) (reachWhole (tileOf tile) tlut) ⌝ }
 {
-    let end = place::modulus(tile, tlut);
+    let end = reach_place::modulus(tile, tlut);
     for at in 0..end {
         if doubled_meets(written, tile, tlut, at) {
             return true;

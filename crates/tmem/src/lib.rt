@@ -4,5 +4,5 @@ mod fresh;
 pub mod has_load;
 pub mod lane;
 mod map;
-mod place;
 pub mod reach;
+mod reach_place;

@@ -8,11 +8,11 @@ ghost use Rattle.rules.specs.Calls.{mapTests, reachCall};
 ghost use Rattle.rules.specs.Reach.{modulus, doubled, xCount, reachAt, reachRow, reachPlain, reachWhole, reachMap};
 ghost use Rattle.rules.specs.Refusal.{first};
 ghost use Rattle.rdp.specs.View.{tileOf, refusalAnswered};
-ghost use Rattle.tmem.specs.InRange.{InRange};
+ghost use Rattle.rules.specs.Tile.{InRange};
 use crate::extent;
 use crate::fresh;
 use crate::map;
-use crate::place;
+use crate::reach_place;
 use rdp::refusal;
 use rdp::tile;
 use rdp::tile::TileDescriptor;
@@ -25,7 +25,7 @@ fn mark_doubled(map: &mut [u8], tile: TileDescriptor, tlut: u32, at: usize)
     ensures { λ _. ⌜ now (map .exit) ≡ marks (now (map .entry)) (doubled (tileOf tile) tlut at) ⌝ }
 {
     map::mark_at(map, at);
-    if place::is_doubled(tile, tlut) {
+    if reach_place::is_doubled(tile, tlut) {
         map::mark_at(map, at + 2048);
     }
 }
@@ -37,7 +37,12 @@ fn mark_place(map: &mut [u8], tile: TileDescriptor, tlut: u32, y: usize, i: usiz
     requires { ⌜ (y < 4096) × (i < 4096) ⌝ }
     ensures { λ _. ⌜ now (map .exit) ≡ marks (now (map .entry)) (reachAt (tileOf tile) tlut y i) ⌝ }
 {
-    mark_doubled(map, tile, tlut, place::reach_address(tile, tlut, y, i));
+    mark_doubled(
+        map,
+        tile,
+        tlut,
+        reach_place::reach_address(tile, tlut, y, i),
+    );
 }
 
 // The addresses of row y are marked; count is the number of its places.
@@ -58,7 +63,7 @@ fn mark_plain(map: &mut [u8], tile: TileDescriptor, tlut: u32)
     requires { ⌜ InRange (tileOf tile) ⌝ }
     ensures { λ _. ⌜ now (map .exit) ≡ marks (now (map .entry)) (reachPlain (tileOf tile) tlut) ⌝ }
 {
-    let count = place::x_count(tile, tlut);
+    let count = reach_place::x_count(tile, tlut);
     let rows = extent::reach_rows(tile);
     for y in 0..rows {
         mark_row(map, tile, tlut, y, count);
@@ -70,7 +75,7 @@ fn mark_whole(map: &mut [u8], tile: TileDescriptor, tlut: u32)
     requires { ⌜ length (now map) ≡ 512 ⌝ }
     ensures { λ _. ⌜ now (map .exit) ≡ marks (now (map .entry)) (reachWhole (tileOf tile) tlut) ⌝ }
 {
-    let end = place::modulus(tile, tlut);
+    let end = reach_place::modulus(tile, tlut);
     for at in 0..end {
         mark_doubled(map, tile, tlut, at);
     }

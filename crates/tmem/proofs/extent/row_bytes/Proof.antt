@@ -1,7 +1,7 @@
 -- `tmem::extent::row_bytes` puts the rule's parts together. Assumes nothing.
 use borrow.Author.Needs.{needs}
 use Rattle.rules.specs.Reach.{rowBytes}
-use Rattle.tmem.proofs.InRange.{extent-le}
+use Rattle.tmem.proofs.Axes.{extent-le}
 use Rattle.tmem.proofs.extent.row_bytes.Statement.{statement}
 use Rattle.tmem.proofs.extent.row_bytes.Tie as tie
 

@@ -8,9 +8,10 @@ ghost use Rattle.rules.specs.Picture.{address, swapOdd};
 ghost use Rattle.rules.specs.Reach.{modulus, xStep, xCount};
 ghost use Rattle.rules.specs.Sampling.{isRgba32};
 ghost use Rattle.rdp.specs.View.{tileOf};
-ghost use Rattle.tmem.specs.InRange.{InRange};
+ghost use Rattle.rules.specs.Tile.{InRange};
 use crate::extent;
 use rdp::tile::TileDescriptor;
+use rdp::units::swap_odd_line;
 
 // The pair (0,3), whose texels lie in both halves of the bank.
 fn is_rgba32(tile: TileDescriptor) -> bool
@@ -51,13 +52,6 @@ pub(crate) fn x_count(tile: TileDescriptor, tlut: u32) -> usize
 {
     let step = x_step(tile, tlut);
     (extent::row_bytes(tile) + (step - 1)) / step
-}
-
-// On odd rows the two halves of a word are swapped.
-fn swap_odd_line(rel: usize, odd: bool) -> usize
-    ensures { λ r. ⌜ r ≡ swapOdd odd rel ⌝ }
-{
-    if odd { rel ^ 4 } else { rel }
 }
 
 // The address at the i-th x of row y.

@@ -1,13 +1,14 @@
--- `tmem::place::reach_address` computes the rule's address; in range no sum or product comes near 2^64. Assumes nothing.
+-- `tmem::reach_place::reach_address` computes the rule's address; in range no sum or product comes near 2^64. Assumes nothing.
 use Prim.Native.Nat.{ℕ, _+_, _*_, _%_, _≤_}
 use lib.Dec.{eqb}
 use native.Mathlib.Nat.{mul-le-mul, mod-lt}
 use native.Mathlib.Omega.{arith}
 use borrow.Author.Needs.{needs}
 use Rattle.rdp.specs.View.{tileOf}
-use Rattle.tmem.proofs.Reached.{swap-le, modulus-bounds, step-bounds}
-use Rattle.tmem.proofs.place.reach_address.Statement.{statement}
-use Rattle.tmem.proofs.place.reach_address.Tie as tie
+use Rattle.rules.proofs.Swaps.{swap-le}
+use Rattle.tmem.proofs.Reached.{modulus-bounds, step-bounds}
+use Rattle.tmem.proofs.reach_place.reach_address.Statement.{statement}
+use Rattle.tmem.proofs.reach_place.reach_address.Tie as tie
 
 bytes-requires : tie.Need-bytes-requires
 bytes-requires c κs = search needs

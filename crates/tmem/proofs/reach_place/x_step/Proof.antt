@@ -1,6 +1,6 @@
--- `tmem::place::x_step` goes by the rule's test. Assumes nothing.
-use Rattle.tmem.proofs.place.x_step.Statement.{statement}
-use Rattle.tmem.proofs.place.x_step.Tie as tie
+-- `tmem::reach_place::x_step` goes by the rule's test. Assumes nothing.
+use Rattle.tmem.proofs.reach_place.x_step.Statement.{statement}
+use Rattle.tmem.proofs.reach_place.x_step.Tie as tie
 
 returns : tie.Need-returns
 returns c = rw (c .if1 .taken)

@@ -1,7 +1,7 @@
--- `tmem::place::modulus` goes by the rule's test. Assumes nothing.
+-- `tmem::reach_place::modulus` goes by the rule's test. Assumes nothing.
 use borrow.Author.Needs.{needs}
-use Rattle.tmem.proofs.place.modulus.Statement.{statement}
-use Rattle.tmem.proofs.place.modulus.Tie as tie
+use Rattle.tmem.proofs.reach_place.modulus.Statement.{statement}
+use Rattle.tmem.proofs.reach_place.modulus.Tie as tie
 
 is-rgba32-requires : tie.Need-is-rgba32-requires
 is-rgba32-requires c κs = search needs

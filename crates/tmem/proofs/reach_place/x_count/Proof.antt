@@ -1,11 +1,11 @@
--- `tmem::place::x_count` divides as the rule does, by a step of 1 or 2. Assumes nothing.
+-- `tmem::reach_place::x_count` divides as the rule does, by a step of 1 or 2. Assumes nothing.
 use Prim.Native.Nat.{_<_}
 use native.Mathlib.Omega.{arith}
 use borrow.Author.Needs.{needs}
 use Rattle.rdp.specs.View.{tileOf}
 use Rattle.tmem.proofs.Reached.{step-bounds, row-bytes-le}
-use Rattle.tmem.proofs.place.x_count.Statement.{statement}
-use Rattle.tmem.proofs.place.x_count.Tie as tie
+use Rattle.tmem.proofs.reach_place.x_count.Statement.{statement}
+use Rattle.tmem.proofs.reach_place.x_count.Tie as tie
 
 x-step-requires : tie.Need-x-step-requires
 x-step-requires c κs = search needs

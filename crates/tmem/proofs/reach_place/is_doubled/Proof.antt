@@ -1,7 +1,7 @@
--- `tmem::place::is_doubled` is the rule's test. Assumes nothing.
+-- `tmem::reach_place::is_doubled` is the rule's test. Assumes nothing.
 use borrow.Author.Needs.{needs}
-use Rattle.tmem.proofs.place.is_doubled.Statement.{statement}
-use Rattle.tmem.proofs.place.is_doubled.Tie as tie
+use Rattle.tmem.proofs.reach_place.is_doubled.Statement.{statement}
+use Rattle.tmem.proofs.reach_place.is_doubled.Tie as tie
 
 is-rgba32-requires : tie.Need-is-rgba32-requires
 is-rgba32-requires c κs = search needs

@@ -1,2 +1,0 @@
--- What private functions ask of their arguments.
-pub mod InRange
