@@ -1,2 +1,4 @@
 // Texture memory, as tmem.rs has it.
+pub mod bank;
 mod map;
+mod word;
