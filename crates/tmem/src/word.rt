@@ -4,13 +4,13 @@ ghost use mathlib.Core.List.{[], _∷_};
 ghost use Prim.Native.Nat.{_<_, _≤_, _^_};
 ghost use lib.ListN.{length, getD};
 ghost use Rattle.rules.specs.Tile.{bankSize};
-ghost use Rattle.rules.specs.Load.{store, halfword, base, firstSpot, oddSpot, spot, put, list4, splits, lowBytes, highBytes, splitStores, wholeStores, wordStores};
+ghost use Rattle.rules.specs.Load.{store, halfword, base, firstSpot, oddSpot, spot, put, list4, splits, upper, lowBytes, highBytes, splitStores, wholeStores, wordStores};
 ghost use Rattle.tmem.specs.Part.{loadOf, Ranged, Lent, placeOf, CarriedOut};
+use crate::bank::Bank;
+use crate::map::mark_at;
 use rdp::units::ByteAddr;
 use rdp::units::LineWords;
 use rdp::units::WordAddr;
-use crate::bank::Bank;
-use crate::map::mark_at;
 
 // The four fields that a load takes of its tile.
 pub(crate) struct LoadTile {
@@ -28,7 +28,13 @@ fn source_byte(src: &[u8], offset: usize) -> u8
 }
 
 // One store, which marks its address.
-pub(crate) fn store_byte(bank: &mut [u8], written: &mut [u8], src: &[u8], at: ByteAddr, offset: usize)
+pub(crate) fn store_byte(
+    bank: &mut [u8],
+    written: &mut [u8],
+    src: &[u8],
+    at: ByteAddr,
+    offset: usize,
+)
     requires { ⌜ Lent (now bank) (now written) ⌝ }
     requires { ⌜ at .0 < bankSize ⌝ }
     ensures { λ _. ⌜ CarriedOut (now (src .entry)) (store (at .0) offset ∷ []) (now (bank .entry)) (now (written .entry)) (now (bank .exit)) (now (written .exit)) ⌝ }
@@ -38,32 +44,42 @@ pub(crate) fn store_byte(bank: &mut [u8], written: &mut [u8], src: &[u8], at: By
     mark_at(written, i);
 }
 
-// Two stores, one after the other.
-fn store_two(
-    bank: &mut [u8],
-    written: &mut [u8],
-    src: &[u8],
-    at: ByteAddr,
-    offset: usize,
-    next_at: ByteAddr,
-    next_offset: usize,
-)
-    requires { ⌜ Lent (now bank) (now written) ⌝ }
-    requires { ⌜ at .0 < bankSize ⌝ }
-    requires { ⌜ «next_at» .0 < bankSize ⌝ }
-    ensures { λ _. ⌜ CarriedOut (now (src .entry)) (store (at .0) offset ∷ store («next_at» .0) «next_offset» ∷ []) (now (bank .entry)) (now (written .entry)) (now (bank .exit)) (now (written .exit)) ⌝ }
-{
-    store_byte(bank, written, src, at, offset);
-    store_byte(bank, written, src, next_at, next_offset);
-}
-
 // The source place of a word's byte k; where one pair fills all lanes, k counts mod 2.
 fn byte_place(source: usize, replicate: bool, k: usize) -> usize
     requires { ⌜ source < 2 ^ 32 ⌝ }
     requires { ⌜ k < 8 ⌝ }
     ensures { λ r. ⌜ r ≡ placeOf source replicate k ⌝ }
 {
-    if replicate { source + (k & 1) } else { source + k }
+    if replicate {
+        source + (k & 1)
+    } else {
+        source + k
+    }
+}
+
+// Two stores, one after the other: bytes k and next_k of a word.
+fn store_pair(
+    bank: &mut [u8],
+    written: &mut [u8],
+    src: &[u8],
+    at: ByteAddr,
+    next_at: ByteAddr,
+    source: usize,
+    replicate: bool,
+    k: usize,
+    next_k: usize,
+)
+    requires { ⌜ Lent (now bank) (now written) ⌝ }
+    requires { ⌜ at .0 < bankSize ⌝ }
+    requires { ⌜ «next_at» .0 < bankSize ⌝ }
+    requires { ⌜ source < 2 ^ 32 ⌝ }
+    requires { ⌜ (k < 8) × («next_k» < 8) ⌝ }
+    ensures { λ _. ⌜ CarriedOut (now (src .entry)) (store (at .0) (placeOf source replicate k) ∷ store («next_at» .0) (placeOf source replicate «next_k») ∷ []) (now (bank .entry)) (now (written .entry)) (now (bank .exit)) (now (written .exit)) ⌝ }
+{
+    let offset = byte_place(source, replicate, k);
+    let next_offset = byte_place(source, replicate, next_k);
+    store_byte(bank, written, src, at, offset);
+    store_byte(bank, written, src, next_at, next_offset);
 }
 
 // The halfword at which column s starts, in its line.
@@ -124,12 +140,93 @@ fn load_indices(first: usize, odd: usize) -> [usize; 4]
 fn low_bytes(tile: LoadTile) -> [usize; 4]
     ensures { λ r. ⌜ r ≡ lowBytes (loadOf tile) ⌝ }
 {
-    if tile.fmt == 1 { [0, 2, 4, 6] } else { [0, 1, 4, 5] }
+    if tile.fmt == 1 {
+        [0, 2, 4, 6]
+    } else {
+        [0, 1, 4, 5]
+    }
 }
 
 // The bytes that go to the upper half.
 fn high_bytes(tile: LoadTile) -> [usize; 4]
     ensures { λ r. ⌜ r ≡ highBytes (loadOf tile) ⌝ }
 {
-    if tile.fmt == 1 { [1, 3, 5, 7] } else { [2, 3, 6, 7] }
+    if tile.fmt == 1 {
+        [1, 3, 5, 7]
+    } else {
+        [2, 3, 6, 7]
+    }
+}
+
+// A word that goes to both halves of the bank: at each address a byte of the low ones, and 2,048 further a high one.
+fn write_split_word(
+    bank: &mut [u8],
+    written: &mut [u8],
+    src: &[u8],
+    tile: LoadTile,
+    first: usize,
+    odd: usize,
+    start: usize,
+    source: usize,
+    replicate: bool,
+)
+    requires { ⌜ Lent (now bank) (now written) ⌝ }
+    requires { ⌜ first < 2048 ⌝ }
+    requires { ⌜ start ≤ 2 ⌝ }
+    requires { ⌜ source < 2 ^ 32 ⌝ }
+    ensures { λ _. ⌜ CarriedOut (now (src .entry)) (splitStores (loadOf tile) (list4 first odd) start (placeOf source replicate)) (now (bank .entry)) (now (written .entry)) (now (bank .exit)) (now (written .exit)) ⌝ }
+{
+    let indices = load_indices(first, odd);
+    let low = low_bytes(tile);
+    let high = high_bytes(tile);
+    for i in 0..4 {
+        let address = indices[start + i / 2] + i % 2;
+        let upper = address + Bank::PALETTE_BASE;
+        store_pair(
+            bank,
+            written,
+            src,
+            ByteAddr(address),
+            ByteAddr(upper),
+            source,
+            replicate,
+            low[i],
+            high[i],
+        );
+    }
+}
+
+// A word that goes to one half of the bank, two bytes at each address of the list of four.
+fn write_whole_word(
+    bank: &mut [u8],
+    written: &mut [u8],
+    src: &[u8],
+    first: usize,
+    odd: usize,
+    source: usize,
+    replicate: bool,
+)
+    requires { ⌜ Lent (now bank) (now written) ⌝ }
+    requires { ⌜ first < 2048 ⌝ }
+    requires { ⌜ odd ≤ 2 ⌝ }
+    requires { ⌜ source < 2 ^ 32 ⌝ }
+    ensures { λ _. ⌜ CarriedOut (now (src .entry)) (wholeStores (list4 first odd) (upper first) odd (placeOf source replicate)) (now (bank .entry)) (now (written .entry)) (now (bank .exit)) (now (written .exit)) ⌝ }
+{
+    let indices = load_indices(first, odd);
+    let high = 2 * (first & 0x400);
+    for k in 0..4 {
+        let address = indices[k] + high;
+        let byte = 2 * (k ^ odd);
+        store_pair(
+            bank,
+            written,
+            src,
+            ByteAddr(address),
+            ByteAddr(address + 1),
+            source,
+            replicate,
+            byte,
+            byte + 1,
+        );
+    }
 }
