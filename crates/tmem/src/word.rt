@@ -230,3 +230,43 @@ fn write_whole_word(
         );
     }
 }
+
+// A word load of column s and row t, with its first source byte at `source`; it answers its count of stores.
+pub(crate) fn write_load_word(
+    bank: &mut [u8],
+    written: &mut [u8],
+    src: &[u8],
+    tile: LoadTile,
+    s: usize,
+    t: usize,
+    source: usize,
+    replicate: bool,
+) -> u32
+    requires { ⌜ Lent (now bank) (now written) ⌝ }
+    requires { ⌜ Ranged (loadOf tile) ⌝ }
+    requires { ⌜ t < 4096 ⌝ }
+    requires { ⌜ source < 2 ^ 32 ⌝ }
+    ensures { λ _. ⌜ CarriedOut (now (src .entry)) (wordStores (loadOf tile) s t (placeOf source replicate)) (now (bank .entry)) (now (written .entry)) (now (bank .exit)) (now (written .exit)) ⌝ }
+    ensures { λ r. ⌜ r ≡ length (wordStores (loadOf tile) s t (placeOf source replicate)) ⌝ }
+{
+    let halfword = column_halfword(tile, s);
+    let first = first_halfword(row_word(tile, t), halfword);
+    let odd = (t & 1) * 2;
+    if (tile.fmt == 1) | ((tile.fmt == 0) & (tile.siz == 3)) {
+        let start = (halfword & 2) ^ odd;
+        write_split_word(
+            bank,
+            written,
+            src,
+            tile,
+            first,
+            odd,
+            start,
+            source,
+            replicate,
+        );
+        return 8;
+    }
+    write_whole_word(bank, written, src, first, odd, source, replicate);
+    8
+}
