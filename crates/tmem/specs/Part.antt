@@ -7,7 +7,7 @@ use Prim.Native.Nat.{ℕ, _+_, _%_, _<_}
 use lib.ListN.{length}
 use Rattle.rules.specs.Tile.{bankSize, mapSize}
 use Rattle.rules.specs.Load.{Store, LoadTile, stored, written}
-use Rattle.tmem.specs.declared.word.LoadTile.{LoadTile as Declared}
+use Rattle.tmem.specs.declared.place.LoadTile.{LoadTile as Declared}
 
 -- the same fields, with the units' numbers
 abbrev pub loadOf : Declared → LoadTile

@@ -1,8 +1,8 @@
--- `tmem::word::put_index` sets one place of the list; its two masks are remainders. Assumes nothing.
+-- `tmem::place::put_index` sets one place of the list; its two masks are remainders. Assumes nothing.
 use native.Mathlib.Omega.{arith}
 use lib.Bits.{and-mask}
-use Rattle.tmem.proofs.word.put_index.Statement.{statement}
-use Rattle.tmem.proofs.word.put_index.Tie as tie
+use Rattle.tmem.proofs.place.put_index.Statement.{statement}
+use Rattle.tmem.proofs.place.put_index.Tie as tie
 
 mul-l : tie.Need-mul-l
 mul-l c = omega (arith, and-mask (c .args .n) 10)

@@ -1,8 +1,8 @@
--- `tmem::word::store_pair` carries out two lists of one store, one after the other. Assumes nothing.
+-- `tmem::store::store_pair` carries out two lists of one store, one after the other. Assumes nothing.
 use borrow.Author.Needs.{needs}
 use Rattle.tmem.proofs.Carry.{after}
-use Rattle.tmem.proofs.word.store_pair.Statement.{statement}
-use Rattle.tmem.proofs.word.store_pair.Tie as tie
+use Rattle.tmem.proofs.store.store_pair.Statement.{statement}
+use Rattle.tmem.proofs.store.store_pair.Tie as tie
 
 byte-place-requires : tie.Need-byte-place-requires
 byte-place-requires c κs = search needs

@@ -1,9 +1,9 @@
--- `tmem::word::store_byte` carries out a list of one store: a byte of the bank, and its mark. Assumes nothing.
+-- `tmem::store::store_byte` carries out a list of one store: a byte of the bank, and its mark. Assumes nothing.
 use Rattle.rules.specs.Base.{marks}
 use Rattle.rules.specs.Load.{stored, written}
 use borrow.Author.Needs.{needs}
-use Rattle.tmem.proofs.word.store_byte.Statement.{statement}
-use Rattle.tmem.proofs.word.store_byte.Tie as tie
+use Rattle.tmem.proofs.store.store_byte.Statement.{statement}
+use Rattle.tmem.proofs.store.store_byte.Tie as tie
 
 source-byte-requires : tie.Need-source-byte-requires
 source-byte-requires c κs = search needs

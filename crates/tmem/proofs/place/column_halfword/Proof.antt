@@ -1,8 +1,8 @@
--- `tmem::word::column_halfword` goes by the tests of the rule; its mask of eleven ones is a remainder. Assumes nothing.
+-- `tmem::place::column_halfword` goes by the tests of the rule; its mask of eleven ones is a remainder. Assumes nothing.
 use lib.Bits.{and-mask}
 use borrow.Author.Tests.{eq-eqb, ne-eqb}
-use Rattle.tmem.proofs.word.column_halfword.Statement.{statement}
-use Rattle.tmem.proofs.word.column_halfword.Tie as tie
+use Rattle.tmem.proofs.place.column_halfword.Statement.{statement}
+use Rattle.tmem.proofs.place.column_halfword.Tie as tie
 
 returns : tie.Need-returns
 returns c = rw (c .if1 .taken) (and-mask _ 11)

@@ -1,12 +1,12 @@
--- `tmem::word::row_word` is the rule's base: a line is below 512 words and a row below 4,096, so no sum or product wraps.
+-- `tmem::place::row_word` is the rule's base: a line is below 512 words and a row below 4,096, so no sum or product wraps.
 -- Assumes nothing.
 use Prim.Native.Nat.{_*_}
 use native.Mathlib.Omega.{arith}
 use lib.Bits.{and-mask}
 use borrow.Author.Needs.{needs}
 use Rattle.tmem.proofs.Indices.{product-within}
-use Rattle.tmem.proofs.word.row_word.Statement.{statement}
-use Rattle.tmem.proofs.word.row_word.Tie as tie
+use Rattle.tmem.proofs.place.row_word.Statement.{statement}
+use Rattle.tmem.proofs.place.row_word.Tie as tie
 
 cast-words : tie.Need-cast-words
 cast-words c = search needs

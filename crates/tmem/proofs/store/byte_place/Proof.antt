@@ -1,9 +1,9 @@
--- `tmem::word::byte_place` adds byte k, or its parity, to the word's place. Assumes nothing.
+-- `tmem::store::byte_place` adds byte k, or its parity, to the word's place. Assumes nothing.
 use native.Mathlib.Omega.{arith}
 use lib.Bits.{and-mask}
 use borrow.Author.Needs.{needs}
-use Rattle.tmem.proofs.word.byte_place.Statement.{statement}
-use Rattle.tmem.proofs.word.byte_place.Tie as tie
+use Rattle.tmem.proofs.store.byte_place.Statement.{statement}
+use Rattle.tmem.proofs.store.byte_place.Tie as tie
 
 add-result : tie.Need-add-result
 add-result c = omega (arith, and-mask (c .before .args .k) 1)

@@ -1,11 +1,11 @@
--- `tmem::word::load_indices` puts the four halfwords one after the other; its mask of eleven ones is a remainder. Assumes nothing.
+-- `tmem::place::load_indices` puts the four halfwords one after the other; its mask of eleven ones is a remainder. Assumes nothing.
 use Prim.Native.Nat.{_+_}
 use native.Mathlib.Nat.{add-zero}
 use lib.Bits.{and-mask}
 use Rattle.rules.specs.Load.{list4}
 use borrow.Author.Needs.{needs}
-use Rattle.tmem.proofs.word.load_indices.Statement.{statement}
-use Rattle.tmem.proofs.word.load_indices.Tie as tie
+use Rattle.tmem.proofs.place.load_indices.Statement.{statement}
+use Rattle.tmem.proofs.place.load_indices.Tie as tie
 
 put-index-requires : tie.Need-put-index-requires
 put-index-requires c κs = search needs
