@@ -1,3 +1,4 @@
 pub mod Carry
 pub mod Indices
 pub mod Places
+pub mod Turns

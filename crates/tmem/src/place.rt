@@ -1,8 +1,10 @@
 // Where a word goes: the fields that a load takes of its tile, the row's word, the column's halfword, and the list of four.
 ghost use mathlib.Core.Path.{_≡_};
 ghost use Prim.Native.Nat.{_<_};
-ghost use Rattle.rules.specs.Load.{halfword, base, firstSpot, put, list4};
+ghost use Rattle.rules.specs.Load.{loadTile, imageTile, halfword, base, firstSpot, put, list4};
+ghost use Rattle.rdp.specs.View.{tileOf};
 ghost use Rattle.tmem.specs.Part.{loadOf, Ranged};
+use rdp::tile::TileDescriptor;
 use rdp::units::LineWords;
 use rdp::units::WordAddr;
 
@@ -66,4 +68,35 @@ pub(crate) fn load_indices(first: usize, odd: usize) -> [usize; 4]
     let two = put_index(one, ((first + 1) & 0x7ff) ^ odd);
     let three = put_index(two, ((first + 2) & 0x7ff) ^ odd);
     put_index(three, ((first + 3) & 0x7ff) ^ odd)
+}
+
+// The tile's four fields.
+pub(crate) fn load_fields(tile: TileDescriptor) -> LoadTile
+    ensures { λ r. ⌜ loadOf r ≡ loadTile (tileOf tile) ⌝ }
+{
+    let line = tile.line;
+    let tmem_addr = tile.tmem_addr;
+    LoadTile {
+        fmt: tile.fmt,
+        siz: tile.siz,
+        line,
+        tmem_addr,
+    }
+}
+
+// For image size 0 a block or a tile load takes fmt 0 and siz 0 in place of the tile's.
+pub(crate) fn image_tile(tile: LoadTile, image_siz: u32) -> LoadTile
+    ensures { λ r. ⌜ loadOf r ≡ imageTile «image_siz» (loadOf tile) ⌝ }
+{
+    if image_siz == 0 {
+        let line = tile.line;
+        let tmem_addr = tile.tmem_addr;
+        return LoadTile {
+            fmt: 0,
+            siz: 0,
+            line,
+            tmem_addr,
+        };
+    }
+    tile
 }

@@ -6,8 +6,8 @@ ghost use lib.ListN.{getD};
 ghost use Rattle.rules.specs.Tile.{bankSize};
 ghost use Rattle.rules.specs.Load.{store};
 ghost use Rattle.tmem.specs.Part.{Lent, placeOf, CarriedOut};
-use rdp::units::ByteAddr;
 use crate::map::mark_at;
+use rdp::units::ByteAddr;
 
 // A byte of the source, and zero past its end.
 fn source_byte(src: &[u8], offset: usize) -> u8

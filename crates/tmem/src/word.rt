@@ -4,7 +4,6 @@ ghost use Prim.Native.Nat.{_<_, _≤_, _^_};
 ghost use lib.ListN.{length};
 ghost use Rattle.rules.specs.Load.{list4, upper, lowBytes, highBytes, splitStores, wholeStores, wordStores};
 ghost use Rattle.tmem.specs.Part.{loadOf, Ranged, Lent, placeOf, CarriedOut};
-use rdp::units::ByteAddr;
 use crate::bank::Bank;
 use crate::place::LoadTile;
 use crate::place::column_halfword;
@@ -12,6 +11,7 @@ use crate::place::first_halfword;
 use crate::place::load_indices;
 use crate::place::row_word;
 use crate::store::store_pair;
+use rdp::units::ByteAddr;
 
 // The bytes of a word that go to the lower half of the bank.
 fn low_bytes(tile: LoadTile) -> [usize; 4]
