@@ -1,8 +1,7 @@
 // Texture memory, as tmem.rs has it.
 pub mod bank;
-mod load_block;
-mod load_tile;
 mod map;
 mod place;
 mod store;
 mod word;
+mod words;
