@@ -1,5 +1,8 @@
 // Texture memory, as tmem.rs has it.
 pub mod bank;
+mod load_block;
+mod load_tile;
+mod load_tlut;
 mod map;
 mod place;
 mod store;

@@ -1,5 +1,4 @@
 -- `tmem::words::write_words` carries out the words of a run, one after the other. Assumes nothing.
-use mathlib.Core.Path.{_∙_}
 use Prim.Native.Nat.{_+_, _-_, _*_, _≤_}
 use native.Mathlib.Omega.{arith}
 use Rattle.tmem.specs.Part.{loadOf}
@@ -55,7 +54,7 @@ write-load-word-requires c κs =
 add-count : tie.Need-add-count Inv-loop μ-loop
 add-count c =
     let d = c .before .before .before .before in
-    omega (arith, count-fits (d .before .before .before .before .before .before .before .before), d .write-load-word .ensures .1 ∙ word-length _ _ _ _)
+    omega (arith, count-fits (d .before .before .before .before .before .before .before .before), rw word-length at (d .write-load-word .ensures .1))
 
 add-word : tie.Need-add-word Inv-loop μ-loop
 add-word c = let d = c .before .before .before .before in omega (arith, d .before .before .before .before .before .before .before .before)
