@@ -2,3 +2,4 @@ pub mod Carry
 pub mod Indices
 pub mod Places
 pub mod Turns
+pub mod Within

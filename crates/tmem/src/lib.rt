@@ -1,5 +1,6 @@
 // Texture memory, as tmem.rs has it.
 pub mod bank;
+pub mod load;
 mod load_block;
 mod load_tile;
 mod load_tlut;
