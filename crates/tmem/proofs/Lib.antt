@@ -3,3 +3,4 @@ pub mod Indices
 pub mod Places
 pub mod Turns
 pub mod Within
+pub mod Again

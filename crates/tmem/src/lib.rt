@@ -9,3 +9,4 @@ mod place;
 mod store;
 mod word;
 mod words;
+mod written;

@@ -6,7 +6,7 @@ ghost use lib.ListN.{getD};
 ghost use Rattle.rules.specs.Tile.{bankSize};
 ghost use Rattle.rules.specs.Load.{store};
 ghost use Rattle.tmem.specs.Part.{Lent, placeOf, CarriedOut};
-use crate::map::mark_at;
+use crate::written::mark_in;
 use rdp::units::ByteAddr;
 
 // A byte of the source, and zero past its end.
@@ -30,7 +30,7 @@ pub(crate) fn store_byte(
 {
     let i = at.0;
     bank[i] = source_byte(src, offset);
-    mark_at(written, i);
+    mark_in(written, i);
 }
 
 // The source place of a word's byte k; where one pair fills all lanes, k counts mod 2.

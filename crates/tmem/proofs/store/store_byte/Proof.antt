@@ -11,8 +11,8 @@ source-byte-requires c κs = search needs
 slice-write-bank : tie.Need-slice-write-bank
 slice-write-bank c = search needs
 
-mark-at-requires : tie.Need-mark-at-requires
-mark-at-requires c κs = search needs
+mark-in-requires : tie.Need-mark-in-requires
+mark-in-requires c κs = search needs
 
 same-length : tie.Need-same-length
 same-length c = search needs
@@ -23,7 +23,7 @@ same-length-2 c = search needs
 returns : tie.Need-returns
 unfolding stored written marks
 returns c =
-    record { bank-is = rw (c .before .before .before .before .source-byte .ensures); map-is = c .before .before .mark-at .ensures }
+    record { bank-is = rw (c .before .before .before .before .source-byte .ensures); map-is = c .before .before .mark-in .ensures }
 
 pub store-byte-spec : {M : Type 1} → statement M
 store-byte-spec =
@@ -31,7 +31,7 @@ store-byte-spec =
     (tie.spec
     source-byte-requires
     slice-write-bank
-    mark-at-requires
+    mark-in-requires
     same-length
     same-length-2
     returns)
