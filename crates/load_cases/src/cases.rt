@@ -130,53 +130,25 @@ fn lent(name: &[u8], src: &[u8], tile: TileDescriptor, bank_len: usize, map_len:
 
 // Document 01's worked loads.
 pub(crate) fn worked(src: &[u8]) {
-    block(b"P5", first(src, 16), tile(0, 2, 0, 0), 2, 2048, 2, 8);
-    block(b"P6 low", first(src, 8), tile(0, 3, 0, 0), 3, 0, 1, 0);
-    block(b"P6 high", first(src, 8), tile(0, 3, 0, 0), 3, 0, 1, 2048);
-    block(b"P7 low", first(src, 16), tile(0, 0, 0, 255), 2, 0, 2, 0);
-    block(
-        b"P7 high",
-        first(src, 16),
-        tile(0, 0, 0, 255),
-        2,
-        0,
-        2,
-        2040,
-    );
+    let one = first(src, 8);
+    let two = first(src, 16);
+    block(b"P5", two, tile(0, 2, 0, 0), 2, 2048, 2, 8);
+    block(b"P6 low", one, tile(0, 3, 0, 0), 3, 0, 1, 0);
+    block(b"P6 high", one, tile(0, 3, 0, 0), 3, 0, 1, 2048);
+    block(b"P7 low", two, tile(0, 0, 0, 255), 2, 0, 2, 0);
+    block(b"P7 high", two, tile(0, 0, 0, 255), 2, 0, 2, 2040);
     tlut(b"P8", b"\xab\xcd", tile(0, 0, 0, 256), 2, 1, 1, 0);
 }
 
 pub(crate) fn blocks(src: &[u8]) {
-    block(
-        b"block words 0",
-        first(src, 16),
-        tile(0, 2, 8, 0),
-        2,
-        512,
-        0,
-        8,
-    );
-    block(
-        b"block words 2048",
-        first(src, 16384),
-        tile(0, 2, 8, 0),
-        2,
-        512,
-        2048,
-        8,
-    );
-    block(
-        b"block words 2049",
-        first(src, 16384),
-        tile(0, 2, 8, 0),
-        2,
-        512,
-        2049,
-        8,
-    );
+    let few = first(src, 64);
+    let most = first(src, 16384);
+    block(b"block words 0", most, tile(0, 2, 8, 0), 2, 512, 0, 8);
+    block(b"block words 2048", most, tile(0, 2, 8, 0), 2, 512, 2048, 8);
+    block(b"block words 2049", most, tile(0, 2, 8, 0), 2, 512, 2049, 8);
     block(
         b"block dxt 4095",
-        first(src, 16384),
+        most,
         tile(3, 1, 511, 511),
         1,
         4095,
@@ -185,217 +157,53 @@ pub(crate) fn blocks(src: &[u8]) {
     );
     block(
         b"block dxt 4096",
-        first(src, 16384),
+        most,
         tile(3, 1, 511, 511),
         1,
         4096,
         2048,
         8,
     );
-    block(
-        b"block yuv",
-        first(src, 64),
-        tile(1, 2, 1, 3),
-        2,
-        1024,
-        8,
-        24,
-    );
-    block(
-        b"block image 0",
-        first(src, 64),
-        tile(0, 3, 1, 3),
-        0,
-        1024,
-        8,
-        24,
-    );
-    block(
-        b"block image 3",
-        first(src, 64),
-        tile(0, 3, 1, 3),
-        3,
-        1024,
-        8,
-        24,
-    );
-    block(
-        b"block image 4",
-        first(src, 64),
-        tile(0, 3, 1, 3),
-        4,
-        1024,
-        8,
-        24,
-    );
+    block(b"block yuv", few, tile(1, 2, 1, 3), 2, 1024, 8, 24);
+    block(b"block image 0", few, tile(0, 3, 1, 3), 0, 1024, 8, 24);
+    block(b"block image 3", few, tile(0, 3, 1, 3), 3, 1024, 8, 24);
+    block(b"block image 4", few, tile(0, 3, 1, 3), 4, 1024, 8, 24);
 }
 
 pub(crate) fn tiles(src: &[u8]) {
-    rows(
-        b"tile rows 0",
-        first(src, 16),
-        tile(2, 1, 2, 0),
-        1,
-        0,
-        2,
-        40,
-    );
-    rows(
-        b"tile rows 3",
-        first(src, 200),
-        tile(2, 1, 2, 0),
-        1,
-        3,
-        2,
-        40,
-    );
-    rows(
-        b"tile rows 1024",
-        first(src, 65536),
-        tile(2, 1, 2, 0),
-        1,
-        1024,
-        2,
-        64,
-    );
-    rows(
-        b"tile rows 1025",
-        first(src, 65536),
-        tile(2, 1, 2, 0),
-        1,
-        1025,
-        2,
-        64,
-    );
-    rows(
-        b"tile words 512",
-        first(src, 65536),
-        tile(0, 3, 16, 5),
-        3,
-        2,
-        512,
-        65535,
-    );
-    rows(
-        b"tile words 513",
-        first(src, 65536),
-        tile(0, 3, 16, 5),
-        3,
-        2,
-        513,
-        65535,
-    );
+    let few = first(src, 200);
+    let most = first(src, 65536);
+    rows(b"tile rows 0", few, tile(2, 1, 2, 0), 1, 0, 2, 40);
+    rows(b"tile rows 3", few, tile(2, 1, 2, 0), 1, 3, 2, 40);
+    rows(b"tile rows 1024", most, tile(2, 1, 2, 0), 1, 1024, 2, 64);
+    rows(b"tile rows 1025", most, tile(2, 1, 2, 0), 1, 1025, 2, 64);
+    rows(b"tile words 512", most, tile(0, 3, 16, 5), 3, 2, 512, 65535);
+    rows(b"tile words 513", most, tile(0, 3, 16, 5), 3, 2, 513, 65535);
     rows(
         b"tile stride 65536",
-        first(src, 65536),
+        most,
         tile(0, 3, 16, 5),
         3,
         2,
         512,
         65536,
     );
-    rows(
-        b"tile image 0",
-        first(src, 200),
-        tile(1, 3, 2, 0),
-        0,
-        3,
-        2,
-        40,
-    );
+    rows(b"tile image 0", few, tile(1, 3, 2, 0), 0, 3, 2, 40);
 }
 
 pub(crate) fn tluts(src: &[u8]) {
-    tlut(
-        b"tlut rows 0",
-        first(src, 16),
-        tile(0, 0, 0, 256),
-        2,
-        16,
-        0,
-        32,
-    );
-    tlut(
-        b"tlut rows 2",
-        first(src, 64),
-        tile(0, 0, 1, 256),
-        2,
-        16,
-        2,
-        32,
-    );
-    tlut(
-        b"tlut rows 1024",
-        first(src, 65536),
-        tile(0, 0, 3, 256),
-        2,
-        16,
-        1024,
-        64,
-    );
-    tlut(
-        b"tlut rows 1025",
-        first(src, 65536),
-        tile(0, 0, 3, 256),
-        2,
-        16,
-        1025,
-        64,
-    );
-    tlut(
-        b"tlut count 0",
-        first(src, 16),
-        tile(0, 0, 0, 256),
-        2,
-        0,
-        1,
-        0,
-    );
-    tlut(
-        b"tlut count 1024",
-        first(src, 2048),
-        tile(0, 0, 0, 256),
-        2,
-        1024,
-        1,
-        0,
-    );
-    tlut(
-        b"tlut count 1025",
-        first(src, 2048),
-        tile(0, 0, 0, 256),
-        2,
-        1025,
-        1,
-        0,
-    );
-    tlut(
-        b"tlut image 0",
-        first(src, 64),
-        tile(0, 0, 0, 256),
-        0,
-        17,
-        1,
-        0,
-    );
-    tlut(
-        b"tlut image 1",
-        first(src, 64),
-        tile(0, 2, 0, 256),
-        1,
-        17,
-        1,
-        0,
-    );
-    tlut(
-        b"tlut image 3",
-        first(src, 64),
-        tile(1, 0, 0, 256),
-        3,
-        17,
-        1,
-        0,
-    );
+    let few = first(src, 64);
+    let most = first(src, 65536);
+    tlut(b"tlut rows 0", few, tile(0, 0, 0, 256), 2, 16, 0, 32);
+    tlut(b"tlut rows 2", few, tile(0, 0, 1, 256), 2, 16, 2, 32);
+    tlut(b"tlut rows 1024", most, tile(0, 0, 3, 256), 2, 16, 1024, 64);
+    tlut(b"tlut rows 1025", most, tile(0, 0, 3, 256), 2, 16, 1025, 64);
+    tlut(b"tlut count 0", few, tile(0, 0, 0, 256), 2, 0, 1, 0);
+    tlut(b"tlut count 1024", most, tile(0, 0, 0, 256), 2, 1024, 1, 0);
+    tlut(b"tlut count 1025", most, tile(0, 0, 0, 256), 2, 1025, 1, 0);
+    tlut(b"tlut image 0", few, tile(0, 0, 0, 256), 0, 17, 1, 0);
+    tlut(b"tlut image 1", few, tile(0, 2, 0, 256), 1, 17, 1, 0);
+    tlut(b"tlut image 3", few, tile(1, 0, 0, 256), 3, 17, 1, 0);
 }
 
 // Sources at both ends of their range, and one past it; short ones read as zero past their end.
@@ -416,32 +224,25 @@ pub(crate) fn sources(src: &[u8]) {
 
 // Lent lengths; 1 comes before 2.
 pub(crate) fn lengths(src: &[u8]) {
-    let word = first(src, 8);
-    lent(b"map 511", word, tile(0, 2, 0, 0), 4096, 511);
-    lent(b"map 512", word, tile(0, 2, 0, 0), 4096, 512);
-    lent(b"map 513", word, tile(0, 2, 0, 0), 4096, 513);
-    lent(b"bank 4095", word, tile(0, 2, 0, 0), 4095, 512);
-    lent(b"bank 4097", word, tile(0, 2, 0, 0), 4097, 512);
-    lent(b"map 511, fmt 8", word, tile(8, 2, 0, 0), 4096, 511);
+    let one = first(src, 8);
+    lent(b"map 511", one, tile(0, 2, 0, 0), 4096, 511);
+    lent(b"map 512", one, tile(0, 2, 0, 0), 4096, 512);
+    lent(b"map 513", one, tile(0, 2, 0, 0), 4096, 513);
+    lent(b"bank 4095", one, tile(0, 2, 0, 0), 4095, 512);
+    lent(b"bank 4097", one, tile(0, 2, 0, 0), 4097, 512);
+    lent(b"map 511, fmt 8", one, tile(8, 2, 0, 0), 4096, 511);
 }
 
-// The fields that a load takes, one past their ranges; 2 comes before 4.
+// The fields that a load takes, at the ends of their ranges and one past them; 2 comes before 4.
 pub(crate) fn fields(src: &[u8]) {
-    block(b"fmt 7", first(src, 8), tile(7, 3, 511, 511), 2, 0, 1, 0);
-    block(b"fmt 8", first(src, 8), tile(8, 2, 0, 0), 2, 0, 1, 0);
-    block(b"siz 4", first(src, 8), tile(0, 4, 0, 0), 2, 0, 1, 0);
-    block(b"line 512", first(src, 8), tile(0, 2, 512, 0), 2, 0, 1, 0);
+    let one = first(src, 8);
+    block(b"fmt 7", one, tile(7, 3, 511, 511), 2, 0, 1, 0);
+    block(b"fmt 8", one, tile(8, 2, 0, 0), 2, 0, 1, 0);
+    block(b"siz 4", one, tile(0, 4, 0, 0), 2, 0, 1, 0);
+    block(b"line 512", one, tile(0, 2, 512, 0), 2, 0, 1, 0);
+    block(b"tmem_addr 512", one, tile(0, 2, 0, 512), 2, 0, 1, 0);
     block(
-        b"tmem_addr 512",
-        first(src, 8),
-        tile(0, 2, 0, 512),
-        2,
-        0,
-        1,
-        0,
-    );
-    block(
-        b"tmem_addr 512, source 65537",
+        b"tmem_addr 512, words 2049",
         src,
         tile(0, 2, 0, 512),
         4,
