@@ -7,7 +7,7 @@ use native.Mathlib.Omega.{arith}
 use lib.ListN.{length}
 use lib.Pow.{pow-mono}
 use borrow.Author.Tests.{eqb-true, not-false}
-use Rattle.rules.specs.Tile.{Tile, InRange}
+use Rattle.rules.specs.Tile.{Tile, sideLimit, InRange}
 use Rattle.rules.specs.Reach.{extent}
 use Rattle.rules.specs.Sampling.{repeats}
 use Rattle.rules.specs.Refusal.{first}

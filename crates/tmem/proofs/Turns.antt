@@ -1,0 +1,144 @@
+-- Runs of words: bounds of a word's numbers, and the rules' lists of a block, a tile's row and a TLUT as runs.
+use mathlib.Core.Path.{_≡_, refl, ap, sym, _∙_}
+use mathlib.Core.Bool.{Bool, true, false, cond}
+use mathlib.Core.List.{List, [], _∷_}
+use Prim.Native.Nat.{ℕ, _+_, _*_, _/_, _%_, _^_, _<_, _≤_}
+use native.Mathlib.Nat.{zero-add, add-zero, mul-zero, mul-comm, mul-assoc, mul-left-comm, mul-le-mul, div-le-self, div-le-of-le-mul}
+use native.Mathlib.Omega.{arith}
+use lib.Dec.{eqb, leb, leb→le}
+use lib.ListN.{length}
+use Rattle.rules.specs.Base.{tab, tabFrom, concat}
+use Rattle.rules.specs.Load.{Store, store, LoadTile, imageTile, wordStores, blockStores, tileRow, entries, advance, steps, hardwareStores, entryStores, entryRow}
+use Rattle.rules.proofs.Computed.{computed}
+use Rattle.rules.proofs.Tables.{length-tab}
+use Rattle.tmem.specs.declared.words.Run.{Run}
+use Rattle.tmem.specs.Part.{Ranged, placeOf}
+use Rattle.tmem.specs.Run.{Paced, runWord, runStores}
+use Rattle.tmem.proofs.Carry.{table-length}
+use Rattle.tmem.proofs.Indices.{product-within}
+use Rattle.tmem.proofs.Places.{word-length}
+
+-- the products of word w, below 2,048, of a run
+pub record Reached (r : Run) (w : ℕ) : Type 0 where
+  pub column : w * r .columns ≤ 2047 * 64
+  pub turned : w * r .dxt ≤ 2047 * r .dxt
+  pub moved : w * r .advance ≤ 2047 * 8
+
+pub reached : (r : Run) (w : ℕ) → Paced r → w ≤ 2047 → Reached r w
+reached r w p h =
+    record {
+      column = mul-le-mul h (p .columns-in);
+      turned = mul-le-mul h (omega arith);
+      moved = mul-le-mul h (p .advance-in);
+    }
+
+pub image-ranged : (image : ℕ) (t : LoadTile) {u : LoadTile} → Ranged t → u ≡ imageTile image t → Ranged u
+image-ranged image t r e = rw e (record { line-in = r .line-in; word-in = r .word-in })
+
+-- two tables whose entries are the same
+same-lists : (n : ℕ) {f g : ℕ → List Store} → ((w : ℕ) → f w ≡ g w) → concat (tab n f) ≡ concat (tab n g)
+same-lists n e = ap (λ h. concat (tab n h)) (λ i w. e w i)
+
+-- "Block word w: s = w·(16 >> image size), t = w·dxt div 2,048, p = 8w."
+abbrev pub blockRun : ℕ → ℕ → Run
+blockRun image dxt = record { columns = 16 / 2 ^ image; row = 0; dxt = dxt; place = 0; advance = 8; replicate = false }
+
+pub block-is : (t : LoadTile) {u : LoadTile} (image dxt words : ℕ) → u ≡ imageTile image t
+    → runStores u (blockRun image dxt) words ≡ blockStores t image dxt words
+unfolding runStores blockStores
+block-is t image dxt words e = same-lists words (λ w. rw (e, zero-add (w * dxt / 2048), zero-add (w * 8), mul-comm w 8))
+
+-- "Tile: t is the row, p = row·stride + 8w."
+abbrev pub rowRun : ℕ → ℕ → ℕ → Run
+rowRun image stride row =
+    record { columns = 16 / 2 ^ image; row = row; dxt = 0; place = row * stride; advance = 8; replicate = false }
+
+pub row-is : (t : LoadTile) {u : LoadTile} (image words stride row : ℕ) → u ≡ imageTile image t
+    → runStores u (rowRun image stride row) words ≡ tileRow t image words stride row
+unfolding runStores tileRow
+row-is t image words stride row e = same-lists words (λ w. rw (e, mul-zero w, add-zero row, mul-comm w 8))
+
+-- "one word load per step at t = 0, s = step·(64 >> image size)"
+abbrev pub tlutRun : ℕ → Run
+tlutRun image = record { columns = 64 / 2 ^ image; row = 0; dxt = 0; place = 0; advance = advance image; replicate = true }
+
+pub tlut-is : (t : LoadTile) (image count : ℕ) → runStores t (tlutRun image) (steps image count) ≡ hardwareStores t image count
+unfolding runStores hardwareStores
+tlut-is t image count = same-lists (steps image count) (λ w. rw (mul-zero w, zero-add (w * advance image)))
+
+-- the runs' numbers are in their ranges
+pub block-paced : (image dxt : ℕ) → dxt ≤ 4095 → Paced (blockRun image dxt)
+block-paced image dxt h =
+    record {
+      columns-in = omega (arith, div-le-self 16 (2 ^ image));
+      row-in = omega arith;
+      place-in = omega arith;
+      advance-in = omega arith;
+    }
+
+pub row-paced : (image stride row : ℕ) → stride ≤ 65535 → row < 1024 → Paced (rowRun image stride row)
+row-paced image stride row h k =
+    record {
+      columns-in = omega (arith, div-le-self 16 (2 ^ image));
+      row-in = omega arith;
+      place-in = product-within 1023 65535 row stride (omega arith) h;
+      advance-in = omega arith;
+    }
+
+pub tlut-paced : (image : ℕ) → Paced (tlutRun image)
+tlut-paced image =
+    record {
+      columns-in = div-le-self 64 (2 ^ image);
+      row-in = omega arith;
+      place-in = omega arith;
+      advance-in = go (eqb image 2);
+    }
+  where
+    go : (b : Bool) → cond b 2 8 ≤ 8
+    go true = omega arith
+    go false = omega arith
+
+-- a step covers an entry at least, so that there are no more steps than entries
+pub step-covers : (image : ℕ) → image ≤ 3 → 1 ≤ entries image
+step-covers image h = leb→le 1 _ (computed 4 (λ m. leb 1 (entries m)) tt image (omega arith))
+
+pub covers-within : (image : ℕ) → image ≤ 3 → entries image ≤ 16
+covers-within image h = leb→le _ 16 (computed 4 (λ m. leb (entries m) 16) tt image (omega arith))
+
+pub steps-within : (image count : ℕ) → image ≤ 3 → count ≤ 1024 → steps image count ≤ 1024
+steps-within image count h k =
+    let e = entries image in
+    let p : 1 ≤ e = step-covers image h in
+    div-le-of-le-mul e (omega arith)
+
+-- rows of words and of entries, by their lengths
+pub row-length : (t : LoadTile) (image words stride row : ℕ) → length (tileRow t image words stride row) ≡ words * 8
+unfolding tileRow
+row-length t image words stride row = table-length _ 8 (λ w. word-length _ _ _ _) words
+
+pub entry-length : (t : LoadTile) (stride row i : ℕ) → length (entryStores t stride row i) ≡ 8
+unfolding entryStores
+entry-length t stride row i = length-tab 8 _
+
+pub entry-row-length : (t : LoadTile) (count stride row : ℕ) → length (entryRow t count stride row) ≡ count * 8
+unfolding entryRow
+entry-row-length t count stride row = table-length _ 8 (entry-length t stride row) count
+
+-- four lines of bytes a row, and a pair of bytes four times over an entry's eight
+pub four-lines : (r l m : ℕ) → m ≡ 8 * l → r * (4 * m) ≡ 32 * r * l
+four-lines r l m e = rw e (ap (λ n. r * n) (sym (mul-assoc 4 8 l)) ∙ mul-left-comm r 32 l ∙ sym (mul-assoc 32 r l))
+
+pub entry-within : (a r l i : ℕ) → (8 * a + 32 * r * l + 8 * i) % 4096 + 8 ≤ 4096
+entry-within a r l i = omega (arith, mul-assoc 32 r l)
+
+pub entry-at : (t : LoadTile) (stride r i at : ℕ) → at ≡ (8 * t .tmem-addr + 32 * r * t .line + 8 * i) % 4096
+    → tab 8 (λ k. store (at + k) (r * stride + 2 * i + k % 2)) ≡ entryStores t stride r i
+unfolding entryStores
+entry-at t stride r i at e = rw e
+
+abbrev pub entryTurn : ℕ → ℕ → ℕ → List Store
+entryTurn at source k = store (at + k) (source + k % 2) ∷ []
+
+pub entry-is : (at source : ℕ) → concat (tab 8 (entryTurn at source)) ≡ tab 8 (λ k. store (at + k) (source + k % 2))
+unfolding concat tab tabFrom
+entry-is at source = refl

@@ -1,0 +1,58 @@
+-- `tmem::place::load_indices` puts the four halfwords one after the other; its mask of eleven ones is a remainder. Assumes nothing.
+use Prim.Native.Nat.{_+_}
+use native.Mathlib.Nat.{add-zero}
+use lib.Bits.{and-mask}
+use Rattle.rules.specs.Load.{list4}
+use borrow.Author.Needs.{needs}
+use Rattle.tmem.proofs.place.load_indices.Statement.{statement}
+use Rattle.tmem.proofs.place.load_indices.Tie as tie
+
+put-index-requires : tie.Need-put-index-requires
+put-index-requires c κs = search needs
+
+add-put-index : tie.Need-add-put-index
+add-put-index c = search needs
+
+put-index-requires-2 : tie.Need-put-index-requires-2
+put-index-requires-2 c κs = search needs
+
+add-put-index-2 : tie.Need-add-put-index-2
+add-put-index-2 c = search needs
+
+put-index-requires-3 : tie.Need-put-index-requires-3
+put-index-requires-3 c κs = search needs
+
+add-put-index-3 : tie.Need-add-put-index-3
+add-put-index-3 c = search needs
+
+put-index-requires-4 : tie.Need-put-index-requires-4
+put-index-requires-4 c κs = search needs
+
+returns : tie.Need-returns
+unfolding list4
+returns c =
+    let a = c .before .before .before .before .args in
+    rw (
+      c .put-index4 .ensures,
+      c .before .put-index3 .ensures,
+      c .before .before .put-index2 .ensures,
+      c .before .before .before .put-index .ensures,
+      add-zero (a .first),
+      and-mask (a .first) 11,
+      and-mask (a .first + 1) 11,
+      and-mask (a .first + 2) 11,
+      and-mask (a .first + 3) 11,
+    )
+
+pub load-indices-spec : {M : Type 1} → statement M
+load-indices-spec =
+    tie.close
+    (tie.spec
+    put-index-requires
+    add-put-index
+    put-index-requires-2
+    add-put-index-2
+    put-index-requires-3
+    add-put-index-3
+    put-index-requires-4
+    returns)
