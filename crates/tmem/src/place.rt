@@ -21,11 +21,11 @@ pub(crate) fn column_halfword(tile: LoadTile, s: usize) -> usize
     ensures { λ r. ⌜ r ≡ halfword (loadOf tile) s ⌝ }
 {
     if (tile.fmt == 1) | (tile.siz == 1) {
-        (s >> 1) & 0x7ff
+        s / 2 % 2048
     } else if tile.siz == 0 {
-        (s >> 2) & 0x7ff
+        s / 4 % 2048
     } else {
-        s & 0x7ff
+        s % 2048
     }
 }
 
@@ -35,7 +35,7 @@ pub(crate) fn row_word(tile: LoadTile, t: usize) -> WordAddr
     requires { ⌜ t < 4096 ⌝ }
     ensures { λ r. ⌜ r .0 ≡ base (loadOf tile) t ⌝ }
 {
-    let words = (tile.line.0 as usize * t) & 0x1ff;
+    let words = tile.line.0 as usize * t % 512;
     WordAddr(words as u32 + tile.tmem_addr.0)
 }
 
@@ -53,8 +53,8 @@ fn put_index(indices: [usize; 4], n: usize) -> [usize; 4]
     ensures { λ r. ⌜ r ≡ put indices n ⌝ }
 {
     let mut l = indices;
-    let k = n & 3;
-    l[k] = 2 * (n & 0x3ff);
+    let k = n % 4;
+    l[k] = 2 * (n % 1024);
     l
 }
 
@@ -64,10 +64,10 @@ pub(crate) fn load_indices(first: usize, odd: usize) -> [usize; 4]
     ensures { λ r. ⌜ r ≡ list4 first odd ⌝ }
 {
     let none = [0usize; 4];
-    let one = put_index(none, (first & 0x7ff) ^ odd);
-    let two = put_index(one, ((first + 1) & 0x7ff) ^ odd);
-    let three = put_index(two, ((first + 2) & 0x7ff) ^ odd);
-    put_index(three, ((first + 3) & 0x7ff) ^ odd)
+    let one = put_index(none, first % 2048 ^ odd);
+    let two = put_index(one, (first + 1) % 2048 ^ odd);
+    let three = put_index(two, (first + 2) % 2048 ^ odd);
+    put_index(three, (first + 3) % 2048 ^ odd)
 }
 
 // The tile's four fields.
