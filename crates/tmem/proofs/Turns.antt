@@ -8,17 +8,17 @@ use native.Mathlib.Omega.{arith}
 use lib.Dec.{eqb, leb, leb→le}
 use lib.ListN.{length}
 use Rattle.rules.specs.Base.{tab, tabFrom, concat}
-use Rattle.rules.specs.Load.{Store, store, LoadTile, imageTile, wordStores, blockStores, tileRow, entries, advance, steps, hardwareStores, entryStores, entryRow}
+use Rattle.rules.specs.Load.{Store, store, LoadTile, imageTile, blockStores, tileRow, entries, advance, steps, hardwareStores, entryStores, entryRow}
 use Rattle.rules.proofs.Computed.{computed}
 use Rattle.rules.proofs.Tables.{length-tab}
 use Rattle.tmem.specs.declared.words.Run.{Run}
-use Rattle.tmem.specs.Part.{Ranged, placeOf}
-use Rattle.tmem.specs.Run.{Paced, wordAt, runWord, runStores}
+use Rattle.tmem.specs.Part.{Ranged}
+use Rattle.tmem.specs.Run.{Paced, runStores}
 use Rattle.tmem.proofs.Carry.{table-length}
 use Rattle.tmem.proofs.Indices.{product-within}
 use Rattle.tmem.proofs.Places.{word-length}
 
--- the products of word w of a run, and its row and its place
+-- the products of word w of a run
 pub record Reached (r : Run) (w : ℕ) : Type 0 where
   pub column : w * r .columns ≤ 2047 * 64
   pub turned : w * r .dxt ≤ 2047 * r .dxt
@@ -32,12 +32,6 @@ reached r w p h =
       turned = product-within 2047 (r .dxt) w (r .dxt) k (omega arith);
       moved = mul-le-mul k (p .advance-in);
     }
-
-pub row-within : (r : Run) (w : ℕ) → Paced r → w < 2048 → wordAt r w .t < 4096
-row-within r w p h = omega (arith, reached r w p h)
-
-pub place-within : (r : Run) (w : ℕ) → Paced r → w < 2048 → wordAt r w .source < 2 ^ 32
-place-within r w p h = omega (arith, reached r w p h)
 
 pub image-ranged : (image : ℕ) (t : LoadTile) {u : LoadTile} → Ranged t → u ≡ imageTile image t → Ranged u
 image-ranged image t r e = rw e (record { line-in = r .line-in; word-in = r .word-in })

@@ -4,7 +4,7 @@ ghost use Prim.Native.Nat.{_+_, _*_, _%_, _<_, _≤_};
 ghost use lib.ListN.{length};
 ghost use Rattle.rules.specs.Base.{tab};
 ghost use Rattle.rules.specs.Tile.{bankSize};
-ghost use Rattle.rules.specs.Load.{store, entries, advance, steps, hardwareStores, entryStores, entryRow, rowStores};
+ghost use Rattle.rules.specs.Load.{store, entries, advance, steps, hardwareStores, entryRow, rowStores};
 ghost use Rattle.tmem.specs.Part.{loadOf, Ranged, Lent, CarriedOut};
 use crate::bank::Bank;
 use crate::place::LoadTile;

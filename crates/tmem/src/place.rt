@@ -16,6 +16,37 @@ pub(crate) struct LoadTile {
     pub(crate) tmem_addr: WordAddr,
 }
 
+// The tile's four fields.
+pub(crate) fn load_fields(tile: TileDescriptor) -> LoadTile
+    ensures { λ r. ⌜ loadOf r ≡ loadTile (tileOf tile) ⌝ }
+{
+    let line = tile.line;
+    let tmem_addr = tile.tmem_addr;
+    LoadTile {
+        fmt: tile.fmt,
+        siz: tile.siz,
+        line,
+        tmem_addr,
+    }
+}
+
+// For image size 0 a block or a tile load takes fmt 0 and siz 0 in place of the tile's.
+pub(crate) fn image_tile(tile: LoadTile, image_siz: u32) -> LoadTile
+    ensures { λ r. ⌜ loadOf r ≡ imageTile «image_siz» (loadOf tile) ⌝ }
+{
+    if image_siz == 0 {
+        let line = tile.line;
+        let tmem_addr = tile.tmem_addr;
+        return LoadTile {
+            fmt: 0,
+            siz: 0,
+            line,
+            tmem_addr,
+        };
+    }
+    tile
+}
+
 // The halfword at which column s starts, in its line.
 pub(crate) fn column_halfword(tile: LoadTile, s: usize) -> usize
     ensures { λ r. ⌜ r ≡ halfword (loadOf tile) s ⌝ }
@@ -68,35 +99,4 @@ pub(crate) fn load_indices(first: usize, odd: usize) -> [usize; 4]
     let two = put_index(one, (first + 1) % 2048 ^ odd);
     let three = put_index(two, (first + 2) % 2048 ^ odd);
     put_index(three, (first + 3) % 2048 ^ odd)
-}
-
-// The tile's four fields.
-pub(crate) fn load_fields(tile: TileDescriptor) -> LoadTile
-    ensures { λ r. ⌜ loadOf r ≡ loadTile (tileOf tile) ⌝ }
-{
-    let line = tile.line;
-    let tmem_addr = tile.tmem_addr;
-    LoadTile {
-        fmt: tile.fmt,
-        siz: tile.siz,
-        line,
-        tmem_addr,
-    }
-}
-
-// For image size 0 a block or a tile load takes fmt 0 and siz 0 in place of the tile's.
-pub(crate) fn image_tile(tile: LoadTile, image_siz: u32) -> LoadTile
-    ensures { λ r. ⌜ loadOf r ≡ imageTile «image_siz» (loadOf tile) ⌝ }
-{
-    if image_siz == 0 {
-        let line = tile.line;
-        let tmem_addr = tile.tmem_addr;
-        return LoadTile {
-            fmt: 0,
-            siz: 0,
-            line,
-            tmem_addr,
-        };
-    }
-    tile
 }

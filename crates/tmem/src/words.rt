@@ -1,6 +1,6 @@
 // A run of word loads, which block, tile and TLUT loads share.
 ghost use mathlib.Core.Path.{_≡_};
-ghost use Prim.Native.Nat.{_<_, _≤_};
+ghost use Prim.Native.Nat.{_<_, _≤_, _^_};
 ghost use lib.ListN.{length};
 ghost use Rattle.tmem.specs.Part.{loadOf, Ranged, Lent, CarriedOut};
 ghost use Rattle.tmem.specs.Run.{Paced, wordAt, runStores};
@@ -37,6 +37,7 @@ impl Run {
         requires { ⌜ Paced self ⌝ }
         requires { ⌜ w < 2048 ⌝ }
         ensures { λ r. ⌜ r ≡ wordAt self w ⌝ }
+        ensures { λ r. ⌜ (r .t < 4096) × (r .source < 2 ^ 32) ⌝ }
     {
         let s = w * self.columns;
         let t = self.row + w * self.dxt / DXT_SWAP;

@@ -5,7 +5,6 @@ use Rattle.tmem.specs.Part.{loadOf}
 use Rattle.tmem.specs.Run.{runWord, runStores}
 use Rattle.tmem.proofs.Carry.{Counted, begin-count, next-count, finish-count, count-within}
 use Rattle.tmem.proofs.Places.{word-length}
-use Rattle.tmem.proofs.Turns.{row-within, place-within}
 use Rattle.tmem.proofs.words.write_words.Statement.{statement}
 use Rattle.tmem.proofs.words.write_words.Tie as tie
 
@@ -28,19 +27,13 @@ loop-holds : tie.Need-loop-holds Inv-loop μ-loop
 loop-holds c = begin-count (c .before .before .before .pre .0)
 
 word-requires : tie.Need-word-requires Inv-loop μ-loop
-word-requires c κs = (c .before .before .before .before .before .pre .1 .1 .0, word-below c)
+word-requires c κs = (c .before .before .before .before .before .pre .1 .1 .0, omega (arith, word-below c))
 
 write-load-word-requires : tie.Need-write-load-word-requires Inv-loop μ-loop
 write-load-word-requires c κs =
     let e = c .before .before in
     let d = e .before in
-    let s = d .before .before .before .before .before in
-    let r = s .args .run in
-    let w = d .before .loop .word in
-    let p = s .pre .1 .1 .0 in (
-      d .before .loop .inv .turn .lent,
-      (s .pre .1 .0, (rw (e .word .ensures) (row-within r w p (word-below d)), rw (e .word .ensures) (place-within r w p (word-below d)))),
-    )
+    (d .before .loop .inv .turn .lent, (d .before .before .before .before .before .pre .1 .0, e .word .ensures .1))
 
 add-count : tie.Need-add-count Inv-loop μ-loop
 add-count c =
@@ -58,7 +51,7 @@ loop-again c =
     let d = c .before .before .before .before in
     let e = d .before .before .before in
     let l = e .before in
-    let done = rw (e .word .ensures) at (d .write-load-word .ensures) in
+    let done = rw (e .word .ensures .0) at (d .write-load-word .ensures) in
     next-count (l .before .loop .inv) (l .loop-test .taken) (done .0) (done .1)
 
 same-length : tie.Need-same-length Inv-loop μ-loop

@@ -1,6 +1,6 @@
 -- `tmem::words::Run::word` computes a word's numbers; no product of a run wraps. Assumes nothing.
+use mathlib.Core.Path.{refl}
 use native.Mathlib.Omega.{arith}
-use borrow.Author.Needs.{needs}
 use Rattle.tmem.proofs.Turns.{Reached, reached}
 use Rattle.tmem.proofs.words.Run.word.Statement.{statement}
 use Rattle.tmem.proofs.words.Run.word.Tie as tie
@@ -24,7 +24,9 @@ add-source : tie.Need-add-source
 add-source c = omega (arith, products (c .before .before .before .before .before))
 
 returns : tie.Need-returns
-returns c = search needs
+returns c =
+    let s = c .before .before .before .before .before in
+    (refl, (omega (arith, products s), omega (arith, products s)))
 
 pub word-spec : {M : Type 1} → statement M
 word-spec = tie.close (tie.spec mul-s mul-t add-t mul-source add-source returns)
