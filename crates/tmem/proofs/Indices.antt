@@ -1,7 +1,8 @@
 -- Bounds of the list of four, and of the numbers that make it.
-use mathlib.Core.Path.{_≡_, refl, ap, sym, _∙_}
-use mathlib.Core.List.{List, [], _∷_}
-use Prim.Native.Nat.{ℕ, zero, suc, _+_, _*_, _/_, _%_, _<_, _≤_}
+use mathlib.Core.Path.{_≡_}
+use mathlib.Core.Bool.{Bool}
+use mathlib.Core.List.{List}
+use Prim.Native.Nat.{ℕ, zero, suc, _*_, _/_, _%_, _<_, _≤_}
 use native.Mathlib.Nat.{mul-le-mul}
 use native.Mathlib.Decide.{ℕ-discrete, decLt}
 use native.Mathlib.Omega.{arith}
@@ -12,6 +13,7 @@ use lib.Dec.{leb, leb→le}
 use Rattle.rules.specs.Load.{put, list4, spot}
 use Rattle.rules.proofs.Computed.{all, computed}
 
+-- a product of numbers that have bounds
 pub product-within : (m n a b : ℕ) → a ≤ m → b ≤ n → a * b ≤ m * n
 product-within m n a b h k = mul-le-mul h k
 
@@ -43,8 +45,9 @@ pub index-below : (f o k : ℕ) → getD (list4 f o) k 0 < 2047
 unfolding list4
 index-below f o k = put-low (spot f o 3) (put-low (spot f o 2) (put-low (spot f o 1) (put-low (spot f o 0) (zeros-low 4)))) .below k
 
--- the place at which a split word starts, and the place of a byte in a whole one
+-- the list place at which a split word starts leaves room for the next
 pub start-below : (h o : ℕ) → o < 2 → bitXor (bitAnd h 2) (o * 2) ≤ 2
-start-below h o q =
-    rw (and-high h 1 1)
-    (leb→le _ 2 (computed 2 (λ o. leb (bitXor (h / 2 % 2 * 2) (o * 2)) 2) (computed 2 (λ b. all 2 (λ o. leb (bitXor (b * 2) (o * 2)) 2)) tt (h / 2 % 2) (omega arith)) o q))
+start-below h o q = rw (and-high h 1 1) (leb→le _ 2 (computed 2 (fits (h / 2 % 2)) (computed 2 (λ b. all 2 (fits b)) tt (h / 2 % 2) (omega arith)) o q))
+  where
+    fits : ℕ → ℕ → Bool
+    fits b o = leb (bitXor (b * 2) (o * 2)) 2

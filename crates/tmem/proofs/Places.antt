@@ -5,11 +5,11 @@ use mathlib.Core.List.{List, [], _∷_}
 use Prim.Native.Nat.{ℕ, _+_, _*_, _%_, _<_, _≤_}
 use native.Mathlib.Omega.{arith}
 use lib.Bits.{bitAnd, bitXor, and-le-r}
-use lib.Dec.{leb, eqb, leb→le}
+use lib.Dec.{T, leb, eqb, leb→le}
 use lib.ListN.{length, getD}
 use Rattle.rules.specs.Base.{tab, tabFrom, concat}
 use Rattle.rules.specs.Load.{Store, store, LoadTile, halfword, base, firstSpot, oddSpot, list4, splits, upper, lowBytes, highBytes, splitAt, splitStores, wholeStores, wordStores}
-use Rattle.rules.proofs.Computed.{computed}
+use Rattle.rules.proofs.Computed.{all, computed}
 use Rattle.tmem.proofs.Indices.{start-below}
 
 -- the two stores of turn i of a word that goes to both halves
@@ -26,20 +26,20 @@ wholeTurn l high o from k =
     ∷ store (getD l k 0 + high + 1) (from (2 * bitXor k o + 1))
     ∷ []
 
+-- a bound that two lists have, one or the other has
+either-within : (n m : ℕ) (b : Bool) (l k : List ℕ) → T (all n (λ i. leb (getD l i 0) m)) → T (all n (λ i. leb (getD k i 0) m))
+    → (i : ℕ)
+    → i < n
+    → getD (cond b l k) i 0 ≤ m
+either-within n m true l k p q i h = leb→le (getD l i 0) m (computed n (λ i. leb (getD l i 0) m) p i h)
+either-within n m false l k p q i h = leb→le (getD k i 0) m (computed n (λ i. leb (getD k i 0) m) q i h)
+
 -- the bytes of both halves are bytes of a word
 pub low-within : (t : LoadTile) (i : ℕ) → i < 4 → getD (lowBytes t) i 0 ≤ 7
-low-within t i h = go (eqb (t .fmt) 1)
-  where
-    go : (b : Bool) → getD (cond b (0 ∷ 2 ∷ 4 ∷ 6 ∷ []) (0 ∷ 1 ∷ 4 ∷ 5 ∷ [])) i 0 ≤ 7
-    go true = leb→le _ 7 (computed 4 (λ i. leb (getD (0 ∷ 2 ∷ 4 ∷ 6 ∷ []) i 0) 7) tt i h)
-    go false = leb→le _ 7 (computed 4 (λ i. leb (getD (0 ∷ 1 ∷ 4 ∷ 5 ∷ []) i 0) 7) tt i h)
+low-within t = either-within 4 7 (eqb (t .fmt) 1) (0 ∷ 2 ∷ 4 ∷ 6 ∷ []) (0 ∷ 1 ∷ 4 ∷ 5 ∷ []) tt tt
 
 pub high-within : (t : LoadTile) (i : ℕ) → i < 4 → getD (highBytes t) i 0 ≤ 7
-high-within t i h = go (eqb (t .fmt) 1)
-  where
-    go : (b : Bool) → getD (cond b (1 ∷ 3 ∷ 5 ∷ 7 ∷ []) (2 ∷ 3 ∷ 6 ∷ 7 ∷ [])) i 0 ≤ 7
-    go true = leb→le _ 7 (computed 4 (λ i. leb (getD (1 ∷ 3 ∷ 5 ∷ 7 ∷ []) i 0) 7) tt i h)
-    go false = leb→le _ 7 (computed 4 (λ i. leb (getD (2 ∷ 3 ∷ 6 ∷ 7 ∷ []) i 0) 7) tt i h)
+high-within t = either-within 4 7 (eqb (t .fmt) 1) (1 ∷ 3 ∷ 5 ∷ 7 ∷ []) (2 ∷ 3 ∷ 6 ∷ 7 ∷ []) tt tt
 
 -- the numbers of a word load, found
 pub record Found (t : LoadTile) (s row h f o : ℕ) : Type 0 where

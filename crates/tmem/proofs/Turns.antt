@@ -8,28 +8,29 @@ use native.Mathlib.Omega.{arith}
 use lib.Dec.{eqb, leb, leb→le}
 use lib.ListN.{length}
 use Rattle.rules.specs.Base.{tab, tabFrom, concat}
-use Rattle.rules.specs.Load.{Store, store, LoadTile, imageTile, wordStores, blockStores, tileRow, entries, advance, steps, hardwareStores, entryStores, entryRow}
+use Rattle.rules.specs.Load.{Store, store, LoadTile, imageTile, blockStores, tileRow, entries, advance, steps, hardwareStores, entryStores, entryRow}
 use Rattle.rules.proofs.Computed.{computed}
 use Rattle.rules.proofs.Tables.{length-tab}
 use Rattle.tmem.specs.declared.words.Run.{Run}
-use Rattle.tmem.specs.Part.{Ranged, placeOf}
-use Rattle.tmem.specs.Run.{Paced, runWord, runStores}
+use Rattle.tmem.specs.Part.{Ranged}
+use Rattle.tmem.specs.Run.{Paced, runStores}
 use Rattle.tmem.proofs.Carry.{table-length}
 use Rattle.tmem.proofs.Indices.{product-within}
 use Rattle.tmem.proofs.Places.{word-length}
 
--- the products of word w, below 2,048, of a run
+-- the products of word w of a run
 pub record Reached (r : Run) (w : ℕ) : Type 0 where
   pub column : w * r .columns ≤ 2047 * 64
   pub turned : w * r .dxt ≤ 2047 * r .dxt
   pub moved : w * r .advance ≤ 2047 * 8
 
-pub reached : (r : Run) (w : ℕ) → Paced r → w ≤ 2047 → Reached r w
+pub reached : (r : Run) (w : ℕ) → Paced r → w < 2048 → Reached r w
 reached r w p h =
+    let k : w ≤ 2047 = omega arith in
     record {
-      column = mul-le-mul h (p .columns-in);
-      turned = mul-le-mul h (omega arith);
-      moved = mul-le-mul h (p .advance-in);
+      column = mul-le-mul k (p .columns-in);
+      turned = product-within 2047 (r .dxt) w (r .dxt) k (omega arith);
+      moved = mul-le-mul k (p .advance-in);
     }
 
 pub image-ranged : (image : ℕ) (t : LoadTile) {u : LoadTile} → Ranged t → u ≡ imageTile image t → Ranged u
@@ -125,8 +126,8 @@ unfolding entryRow
 entry-row-length t count stride row = table-length _ 8 (entry-length t stride row) count
 
 -- four lines of bytes a row, and a pair of bytes four times over an entry's eight
-pub four-lines : (r l m : ℕ) → m ≡ 8 * l → r * (4 * m) ≡ 32 * r * l
-four-lines r l m e = rw e (ap (λ n. r * n) (sym (mul-assoc 4 8 l)) ∙ mul-left-comm r 32 l ∙ sym (mul-assoc 32 r l))
+pub lines-down : (r l : ℕ) → r * (32 * l) ≡ 32 * r * l
+lines-down r l = mul-left-comm r 32 l ∙ sym (mul-assoc 32 r l)
 
 pub entry-within : (a r l i : ℕ) → (8 * a + 32 * r * l + 8 * i) % 4096 + 8 ≤ 4096
 entry-within a r l i = omega (arith, mul-assoc 32 r l)

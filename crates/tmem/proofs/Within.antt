@@ -1,15 +1,15 @@
 -- What holds of a load that is not refused, and what a load answers and leaves.
-use mathlib.Core.Path.{_≡_, refl, ap, sym, _∙_}
-use mathlib.Core.Bool.{Bool, true, false, cond, _&&_, _||_}
+use mathlib.Core.Path.{_≡_, refl, _∙_}
+use mathlib.Core.Bool.{Bool, true, false, _&&_, _||_}
 use mathlib.Core.List.{List, [], _∷_}
-use Prim.Native.Nat.{ℕ, _<_, _≤_}
+use Prim.Native.Nat.{ℕ, _≤_}
 use native.Mathlib.Omega.{arith}
 use lib.Dec.{eqb, ltb}
 use lib.ListN.{length}
 use borrow.Author.Tests.{ltb-false, not-false, eqb-true}
 use Rattle.rules.specs.Tile.{Tile, loadFieldsOutside}
 use Rattle.rules.specs.Load.{Store, LoadTile, loadTile, stored, written, hardwareStores, rowStores, tlutStores}
-use Rattle.rules.specs.Refusal.{Test, Outcome, first, call}
+use Rattle.rules.specs.Refusal.{Test, first}
 use Rattle.rules.specs.Calls.{loadTests, loaded, blockOutside, tileLoadOutside, tlutOutside}
 use Rattle.rules.proofs.Refused.{Passed, Numbered, passed, refused-is, done-is}
 use Rattle.tmem.specs.Part.{Ranged, Lent, CarriedOut}

@@ -4,6 +4,7 @@ use Prim.Native.Nat.{ℕ, _+_, _*_, _/_, _≤_}
 use Rattle.rules.specs.Base.{tab, concat}
 use Rattle.rules.specs.Load.{Store, LoadTile, wordStores}
 use Rattle.tmem.specs.declared.words.Run.{Run}
+use Rattle.tmem.specs.declared.words.WordAt.{WordAt}
 use Rattle.tmem.specs.Part.{placeOf}
 
 -- the run's numbers are those of some load
@@ -13,10 +14,13 @@ pub record Paced (r : Run) : Type 0 where
   pub place-in : r .place ≤ 1023 * 65535
   pub advance-in : r .advance ≤ 8
 
--- word w of the run
+-- where word w of the run stands
+abbrev pub wordAt : Run → ℕ → WordAt
+wordAt r w = record { s = w * r .columns; t = r .row + w * r .dxt / 2048; source = r .place + w * r .advance }
+
+-- its stores
 abbrev pub runWord : LoadTile → Run → ℕ → List Store
-runWord t r w =
-    wordStores t (w * r .columns) (r .row + w * r .dxt / 2048) (placeOf (r .place + w * r .advance) (r .replicate))
+runWord t r w = wordStores t (wordAt r w .s) (wordAt r w .t) (placeOf (wordAt r w .source) (r .replicate))
 
 unfoldable pub runStores : LoadTile → Run → ℕ → List Store
 runStores t r words = concat (tab words (runWord t r))

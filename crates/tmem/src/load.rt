@@ -37,10 +37,7 @@ fn load_refusal(
     if (65536 < src.len()) | (3 < image_siz) {
         return refusal::LOAD;
     }
-    if outside {
-        return refusal::LOAD;
-    }
-    0
+    if outside { refusal::LOAD } else { 0 }
 }
 
 // A block of words, whose row advances by dxt 2,048ths a word.

@@ -4,7 +4,7 @@ ghost use Prim.Native.Nat.{_+_, _*_, _%_, _<_, _≤_};
 ghost use lib.ListN.{length};
 ghost use Rattle.rules.specs.Base.{tab};
 ghost use Rattle.rules.specs.Tile.{bankSize};
-ghost use Rattle.rules.specs.Load.{store, entries, advance, steps, hardwareStores, entryStores, entryRow, rowStores};
+ghost use Rattle.rules.specs.Load.{store, entries, advance, steps, hardwareStores, entryRow, rowStores};
 ghost use Rattle.tmem.specs.Part.{loadOf, Ranged, Lent, CarriedOut};
 use crate::bank::Bank;
 use crate::place::LoadTile;
@@ -12,6 +12,7 @@ use crate::store::store_byte;
 use crate::words::Run;
 use crate::words::write_words;
 use rdp::units::ByteAddr;
+use rdp::units::LineWords;
 
 // The entries that a step of the hardware's load covers.
 fn tlut_entries(image_siz: u32) -> usize
@@ -72,6 +73,13 @@ pub(crate) fn write_tlut_words(
     write_words(bank, written, src, tile, run, steps)
 }
 
+// The bytes from row to row: four lines.
+fn four_lines(line: LineWords) -> usize
+    ensures { λ r. ⌜ r ≡ 32 * line .0 ⌝ }
+{
+    4 * line.bytes().0
+}
+
 // The byte at which entry i of a row starts.
 fn entry_addr(tile: LoadTile, row: usize, i: usize) -> ByteAddr
     requires { ⌜ Ranged (loadOf tile) ⌝ }
@@ -82,8 +90,7 @@ fn entry_addr(tile: LoadTile, row: usize, i: usize) -> ByteAddr
     let word = tile.tmem_addr;
     let line = tile.line;
     let base = word.bytes().0;
-    let four_lines = 4 * line.bytes().0;
-    let at = base + row * four_lines + 8 * i;
+    let at = base + row * four_lines(line) + 8 * i;
     ByteAddr(at & Bank::MASK8)
 }
 

@@ -16,60 +16,6 @@ pub(crate) struct LoadTile {
     pub(crate) tmem_addr: WordAddr,
 }
 
-// The halfword at which column s starts, in its line.
-pub(crate) fn column_halfword(tile: LoadTile, s: usize) -> usize
-    ensures { λ r. ⌜ r ≡ halfword (loadOf tile) s ⌝ }
-{
-    if (tile.fmt == 1) | (tile.siz == 1) {
-        (s >> 1) & 0x7ff
-    } else if tile.siz == 0 {
-        (s >> 2) & 0x7ff
-    } else {
-        s & 0x7ff
-    }
-}
-
-// The word at which row t starts.
-pub(crate) fn row_word(tile: LoadTile, t: usize) -> WordAddr
-    requires { ⌜ Ranged (loadOf tile) ⌝ }
-    requires { ⌜ t < 4096 ⌝ }
-    ensures { λ r. ⌜ r .0 ≡ base (loadOf tile) t ⌝ }
-{
-    let words = (tile.line.0 as usize * t) & 0x1ff;
-    WordAddr(words as u32 + tile.tmem_addr.0)
-}
-
-// The first of the word's four halfwords, by its number in the bank's half.
-pub(crate) fn first_halfword(row: WordAddr, halfword: usize) -> usize
-    requires { ⌜ row .0 < 1024 ⌝ }
-    requires { ⌜ halfword < 2048 ⌝ }
-    ensures { λ r. ⌜ r ≡ firstSpot (row .0) halfword ⌝ }
-{
-    (4 * row.0 as usize + halfword) & 0x7fd
-}
-
-// The byte address of halfword n in its place of the list of four.
-fn put_index(indices: [usize; 4], n: usize) -> [usize; 4]
-    ensures { λ r. ⌜ r ≡ put indices n ⌝ }
-{
-    let mut l = indices;
-    let k = n & 3;
-    l[k] = 2 * (n & 0x3ff);
-    l
-}
-
-// The list of four: where each halfword of the word goes.
-pub(crate) fn load_indices(first: usize, odd: usize) -> [usize; 4]
-    requires { ⌜ first < 2048 ⌝ }
-    ensures { λ r. ⌜ r ≡ list4 first odd ⌝ }
-{
-    let none = [0usize; 4];
-    let one = put_index(none, (first & 0x7ff) ^ odd);
-    let two = put_index(one, ((first + 1) & 0x7ff) ^ odd);
-    let three = put_index(two, ((first + 2) & 0x7ff) ^ odd);
-    put_index(three, ((first + 3) & 0x7ff) ^ odd)
-}
-
 // The tile's four fields.
 pub(crate) fn load_fields(tile: TileDescriptor) -> LoadTile
     ensures { λ r. ⌜ loadOf r ≡ loadTile (tileOf tile) ⌝ }
@@ -99,4 +45,58 @@ pub(crate) fn image_tile(tile: LoadTile, image_siz: u32) -> LoadTile
         };
     }
     tile
+}
+
+// The halfword at which column s starts, in its line.
+pub(crate) fn column_halfword(tile: LoadTile, s: usize) -> usize
+    ensures { λ r. ⌜ r ≡ halfword (loadOf tile) s ⌝ }
+{
+    if (tile.fmt == 1) | (tile.siz == 1) {
+        s / 2 % 2048
+    } else if tile.siz == 0 {
+        s / 4 % 2048
+    } else {
+        s % 2048
+    }
+}
+
+// The word at which row t starts.
+pub(crate) fn row_word(tile: LoadTile, t: usize) -> WordAddr
+    requires { ⌜ Ranged (loadOf tile) ⌝ }
+    requires { ⌜ t < 4096 ⌝ }
+    ensures { λ r. ⌜ r .0 ≡ base (loadOf tile) t ⌝ }
+{
+    let words = tile.line.0 as usize * t % 512;
+    WordAddr(words as u32 + tile.tmem_addr.0)
+}
+
+// The first of the word's four halfwords, by its number in the bank's half.
+pub(crate) fn first_halfword(row: WordAddr, halfword: usize) -> usize
+    requires { ⌜ row .0 < 1024 ⌝ }
+    requires { ⌜ halfword < 2048 ⌝ }
+    ensures { λ r. ⌜ r ≡ firstSpot (row .0) halfword ⌝ }
+{
+    (4 * row.0 as usize + halfword) & 0x7fd
+}
+
+// The byte address of halfword n in its place of the list of four.
+fn put_index(indices: [usize; 4], n: usize) -> [usize; 4]
+    ensures { λ r. ⌜ r ≡ put indices n ⌝ }
+{
+    let mut l = indices;
+    let k = n % 4;
+    l[k] = 2 * (n % 1024);
+    l
+}
+
+// The list of four: where each halfword of the word goes.
+pub(crate) fn load_indices(first: usize, odd: usize) -> [usize; 4]
+    requires { ⌜ first < 2048 ⌝ }
+    ensures { λ r. ⌜ r ≡ list4 first odd ⌝ }
+{
+    let none = [0usize; 4];
+    let one = put_index(none, first % 2048 ^ odd);
+    let two = put_index(one, (first + 1) % 2048 ^ odd);
+    let three = put_index(two, (first + 2) % 2048 ^ odd);
+    put_index(three, (first + 3) % 2048 ^ odd)
 }

@@ -40,7 +40,7 @@ fn byte_place(source: usize, replicate: bool, k: usize) -> usize
     ensures { λ r. ⌜ r ≡ placeOf source replicate k ⌝ }
 {
     if replicate {
-        source + (k & 1)
+        source + k % 2
     } else {
         source + k
     }

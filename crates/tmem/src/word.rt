@@ -128,7 +128,7 @@ pub(crate) fn write_load_word(
 {
     let halfword = column_halfword(tile, s);
     let first = first_halfword(row_word(tile, t), halfword);
-    let odd = (t & 1) * 2;
+    let odd = t % 2 * 2;
     if (tile.fmt == 1) | ((tile.fmt == 0) & (tile.siz == 3)) {
         let start = (halfword & 2) ^ odd;
         write_split_word(

@@ -1,9 +1,9 @@
 // A run of word loads, which block, tile and TLUT loads share.
 ghost use mathlib.Core.Path.{_≡_};
-ghost use Prim.Native.Nat.{_≤_};
+ghost use Prim.Native.Nat.{_<_, _≤_, _^_};
 ghost use lib.ListN.{length};
 ghost use Rattle.tmem.specs.Part.{loadOf, Ranged, Lent, CarriedOut};
-ghost use Rattle.tmem.specs.Run.{Paced, runStores};
+ghost use Rattle.tmem.specs.Run.{Paced, wordAt, runStores};
 use crate::place::LoadTile;
 use crate::word::write_load_word;
 
@@ -24,6 +24,28 @@ pub(crate) struct Run {
 // The dxt that advances a whole row a word.
 const DXT_SWAP: usize = 0x800;
 
+// The column, row and source place of a word.
+struct WordAt {
+    s: usize,
+    t: usize,
+    source: usize,
+}
+
+impl Run {
+    // Where word w of the run stands.
+    fn word(self, w: usize) -> WordAt
+        requires { ⌜ Paced self ⌝ }
+        requires { ⌜ w < 2048 ⌝ }
+        ensures { λ r. ⌜ r ≡ wordAt self w ⌝ }
+        ensures { λ r. ⌜ (r .t < 4096) × (r .source < 2 ^ 32) ⌝ }
+    {
+        let s = w * self.columns;
+        let t = self.row + w * self.dxt / DXT_SWAP;
+        let source = self.place + w * self.advance;
+        WordAt { s, t, source }
+    }
+}
+
 // The words of a run, one after the other; it answers its count of stores.
 pub(crate) fn write_words(
     bank: &mut [u8],
@@ -42,10 +64,18 @@ pub(crate) fn write_words(
 {
     let mut count = 0u32;
     for word in 0..words {
-        let s = word * run.columns;
-        let t = run.row + word * run.dxt / DXT_SWAP;
-        let source = run.place + word * run.advance;
-        count = count + write_load_word(bank, written, src, tile, s, t, source, run.replicate);
+        let at = run.word(word);
+        count = count
+            + write_load_word(
+                bank,
+                written,
+                src,
+                tile,
+                at.s,
+                at.t,
+                at.source,
+                run.replicate,
+            );
     }
     count
 }

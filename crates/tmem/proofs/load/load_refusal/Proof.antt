@@ -1,5 +1,5 @@
 -- `tmem::load::load_refusal` answers the first test that fails: each return rewrites by the tests that led there. Assumes nothing.
-use mathlib.Core.Path.{_≡_, sym, _∙_}
+use mathlib.Core.Path.{sym, _∙_}
 use borrow.Author.Tests.{eq-eqb, ne-eqb}
 use borrow.Author.Needs.{needs}
 use Rattle.rules.specs.Refusal.{first}

@@ -1,5 +1,6 @@
 -- `tmem::load_block::write_block_words` is a run of words. Assumes nothing.
 use borrow.Author.Needs.{needs}
+use native.Mathlib.Omega.{arith}
 use Rattle.tmem.specs.Part.{loadOf}
 use Rattle.tmem.proofs.Turns.{image-ranged, block-paced, block-is}
 use Rattle.tmem.proofs.load_block.write_block_words.Statement.{statement}
@@ -15,7 +16,7 @@ write-words-requires : tie.Need-write-words-requires
 write-words-requires c κs =
     let s = c .before .before .before .before .before .before in
     let image = image-ranged (s .args .image-siz) (loadOf (s .args .tile)) (s .pre .1 .0) (c .before .before .image-tile .ensures) in
-    (s .pre .0, (image, (block-paced (s .args .image-siz) (s .args .dxt) (s .pre .1 .1 .1 .0), s .pre .1 .1 .1 .1)))
+    (s .pre .0, (image, (block-paced (s .args .image-siz) (s .args .dxt) (s .pre .1 .1 .1 .0), omega (arith, s .pre))))
 
 same-length : tie.Need-same-length
 same-length c = search needs

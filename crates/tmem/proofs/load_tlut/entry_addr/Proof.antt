@@ -4,23 +4,18 @@ use native.Mathlib.Omega.{arith}
 use lib.Bits.{and-mask}
 use borrow.Author.Needs.{needs}
 use Rattle.tmem.proofs.Indices.{product-within}
-use Rattle.tmem.proofs.Turns.{four-lines}
+use Rattle.tmem.proofs.Turns.{lines-down}
 use Rattle.tmem.proofs.load_tlut.entry_addr.Statement.{statement}
 use Rattle.tmem.proofs.load_tlut.entry_addr.Tie as tie
 
-rows-within : (c : tie.After-struct-known)
-    → c .before .before .before .before .before .args .row * (4 * c .before .bytes2 .result .0) ≤ 1023 * 16352
-rows-within c =
-    product-within 1023 16352 (c .before .before .before .before .before .args .row) (4 * c .before .bytes2 .result .0) (omega arith) (omega arith)
+rows-within : (c : tie.After-four-lines) → c .before .before .before .before .args .row * c .four-lines .result ≤ 1023 * 16352
+rows-within c = product-within 1023 16352 (c .before .before .before .before .args .row) (c .four-lines .result) (omega arith) (omega arith)
 
 bytes-requires : tie.Need-bytes-requires
 bytes-requires c κs = search needs
 
-bytes-requires-2 : tie.Need-bytes-requires-2
-bytes-requires-2 c κs = search needs
-
-mul-four-lines : tie.Need-mul-four-lines
-mul-four-lines c = search needs
+four-lines-requires : tie.Need-four-lines-requires
+four-lines-requires c κs = search needs
 
 mul-at : tie.Need-mul-at
 mul-at c = omega (arith, rows-within c)
@@ -36,18 +31,9 @@ add-at-2 c = omega (arith, rows-within c)
 
 returns : tie.Need-returns
 returns c =
-    let a = c .before .before .before .before .before .args in
-    rw (and-mask _ 12, c .before .before .bytes .ensures, four-lines (a .row) (a .tile .line .0) _ (c .before .bytes2 .ensures))
+    let a = c .before .before .before .before .args in
+    rw (and-mask _ 12, c .before .bytes .ensures, c .four-lines .ensures, lines-down (a .row) (a .tile .line .0))
 
 pub entry-addr-spec : {M : Type 1} → statement M
 entry-addr-spec =
-    tie.close
-    (tie.spec
-    bytes-requires
-    bytes-requires-2
-    mul-four-lines
-    mul-at
-    add-at
-    mul-at-2
-    add-at-2
-    returns)
+    tie.close (tie.spec bytes-requires four-lines-requires mul-at add-at mul-at-2 add-at-2 returns)

@@ -1,9 +1,7 @@
--- `tmem::place::load_indices` puts the four halfwords one after the other; its mask of eleven ones is a remainder. Assumes nothing.
-use Prim.Native.Nat.{_+_}
+-- `tmem::place::load_indices` puts the four halfwords one after the other. Assumes nothing.
 use native.Mathlib.Nat.{add-zero}
-use lib.Bits.{and-mask}
-use Rattle.rules.specs.Load.{list4}
 use borrow.Author.Needs.{needs}
+use Rattle.rules.specs.Load.{list4}
 use Rattle.tmem.proofs.place.load_indices.Statement.{statement}
 use Rattle.tmem.proofs.place.load_indices.Tie as tie
 
@@ -31,17 +29,12 @@ put-index-requires-4 c κs = search needs
 returns : tie.Need-returns
 unfolding list4
 returns c =
-    let a = c .before .before .before .before .args in
     rw (
       c .put-index4 .ensures,
       c .before .put-index3 .ensures,
       c .before .before .put-index2 .ensures,
       c .before .before .before .put-index .ensures,
-      add-zero (a .first),
-      and-mask (a .first) 11,
-      and-mask (a .first + 1) 11,
-      and-mask (a .first + 2) 11,
-      and-mask (a .first + 3) 11,
+      add-zero (c .before .before .before .before .args .first),
     )
 
 pub load-indices-spec : {M : Type 1} → statement M

@@ -1,18 +1,16 @@
 -- `tmem::store::byte_place` adds byte k, or its parity, to the word's place. Assumes nothing.
-use native.Mathlib.Omega.{arith}
-use lib.Bits.{and-mask}
 use borrow.Author.Needs.{needs}
 use Rattle.tmem.proofs.store.byte_place.Statement.{statement}
 use Rattle.tmem.proofs.store.byte_place.Tie as tie
 
 add-result : tie.Need-add-result
-add-result c = omega (arith, and-mask (c .before .args .k) 1)
+add-result c = search needs
 
 add-result-2 : tie.Need-add-result-2
 add-result-2 c = search needs
 
 returns : tie.Need-returns
-returns c = rw (c .if1 .taken, and-mask (c .before .args .k) 1)
+returns c = rw (c .if1 .taken)
 
 returns-2 : tie.Need-returns-2
 returns-2 c = rw (c .if1 .left)

@@ -1,8 +1,7 @@
 -- `tmem::word::write_load_word` is one of the two shapes, by the rule's test, and either is eight stores. Assumes nothing.
-use mathlib.Core.Path.{sym}
-use Prim.Native.Nat.{_*_}
+use mathlib.Core.Path.{refl, sym}
+use Prim.Native.Nat.{_*_, _%_}
 use native.Mathlib.Omega.{arith}
-use lib.Bits.{bitAnd, and-mask}
 use Rattle.tmem.specs.Part.{loadOf}
 use Rattle.tmem.proofs.Places.{Found, first-within, odd-within, start-within, split-word, whole-word, word-length}
 use borrow.Author.Needs.{needs}
@@ -11,12 +10,12 @@ use Rattle.tmem.proofs.word.write_load_word.Tie as tie
 
 -- the word's numbers, once they are found
 found : (c : tie.After-first-halfword) → let a = c .before .before .before .before .before .before .args in
-    Found (loadOf (a .tile)) (a .s) (a .t) (c .before .before .column-halfword .result) (c .first-halfword .result) (bitAnd (a .t) 1 * 2)
+    Found (loadOf (a .tile)) (a .s) (a .t) (c .before .before .column-halfword .result) (c .first-halfword .result) (a .t % 2 * 2)
 found c =
     record {
       half-is = c .before .before .column-halfword .ensures;
       first-is = rw (← c .before .row-word .ensures) (c .first-halfword .ensures);
-      odd-is = rw (and-mask (c .before .before .before .before .before .before .args .t) 1);
+      odd-is = refl;
     }
 
 column-halfword-requires : tie.Need-column-halfword-requires

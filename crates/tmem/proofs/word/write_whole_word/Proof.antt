@@ -1,5 +1,4 @@
 -- `tmem::word::write_whole_word` carries out two stores at each of the four places. Assumes nothing.
-use mathlib.Core.Path.{_≡_}
 use Prim.Native.Nat.{_-_, _<_, _≤_}
 use native.Mathlib.Omega.{arith}
 use lib.Bits.{bitAnd, bitXor, and-le-r, xor-lt}

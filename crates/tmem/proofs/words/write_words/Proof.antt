@@ -1,11 +1,10 @@
 -- `tmem::words::write_words` carries out the words of a run, one after the other. Assumes nothing.
-use Prim.Native.Nat.{_+_, _-_, _*_, _≤_}
+use Prim.Native.Nat.{_+_, _-_, _*_, _<_, _≤_}
 use native.Mathlib.Omega.{arith}
 use Rattle.tmem.specs.Part.{loadOf}
 use Rattle.tmem.specs.Run.{runWord, runStores}
 use Rattle.tmem.proofs.Carry.{Counted, begin-count, next-count, finish-count, count-within}
 use Rattle.tmem.proofs.Places.{word-length}
-use Rattle.tmem.proofs.Turns.{Reached, reached}
 use Rattle.tmem.proofs.words.write_words.Statement.{statement}
 use Rattle.tmem.proofs.words.write_words.Tie as tie
 
@@ -16,11 +15,8 @@ Inv-loop bank₀ written₀ src tile run words count₀ word₀ bank written cou
 abbrev μ-loop : tie.MeasureT-loop
 μ-loop bank₀ written₀ src tile run words count₀ word₀ bank written count word = words - word
 
--- the products of a turn, and its count
-products : (c : tie.In-loop Inv-loop μ-loop) → Reached (c .before .before .before .before .before .args .run) (c .before .loop .word)
-products c =
-    let s = c .before .before .before .before .before in
-    reached (s .args .run) (c .before .loop .word) (s .pre .1 .1 .0) (omega arith)
+word-below : (c : tie.In-loop Inv-loop μ-loop) → c .before .loop .word < 2048
+word-below c = omega (arith, c .before .before .before .before .before)
 
 count-fits : (c : tie.In-loop Inv-loop μ-loop) → c .before .loop .count + 8 ≤ 2048 * 8
 count-fits c =
@@ -30,34 +26,22 @@ count-fits c =
 loop-holds : tie.Need-loop-holds Inv-loop μ-loop
 loop-holds c = begin-count (c .before .before .before .pre .0)
 
-mul-s : tie.Need-mul-s Inv-loop μ-loop
-mul-s c = omega (arith, products (c .before))
-
-mul-t : tie.Need-mul-t Inv-loop μ-loop
-mul-t c = omega (arith, products (c .before .before))
-
-add-t : tie.Need-add-t Inv-loop μ-loop
-add-t c = omega (arith, products (c .before .before .before))
-
-mul-source : tie.Need-mul-source Inv-loop μ-loop
-mul-source c = omega (arith, products (c .before .before .before .before))
-
-add-source : tie.Need-add-source Inv-loop μ-loop
-add-source c = omega (arith, products (c .before .before .before .before .before))
+word-requires : tie.Need-word-requires Inv-loop μ-loop
+word-requires c κs = (c .before .before .before .before .before .pre .1 .1 .0, omega (arith, word-below c))
 
 write-load-word-requires : tie.Need-write-load-word-requires Inv-loop μ-loop
 write-load-word-requires c κs =
-    let d = c .before .before .before .before .before .before .before in
-    let s = d .before .before .before .before .before in
-    (d .before .loop .inv .turn .lent, (s .pre .1 .0, (omega (arith, products d), omega (arith, products d))))
+    let e = c .before .before in
+    let d = e .before in
+    (d .before .loop .inv .turn .lent, (d .before .before .before .before .before .pre .1 .0, e .word .ensures .1))
 
 add-count : tie.Need-add-count Inv-loop μ-loop
 add-count c =
     let d = c .before .before .before .before in
-    omega (arith, count-fits (d .before .before .before .before .before .before .before .before), rw word-length at (d .write-load-word .ensures .1))
+    omega (arith, count-fits (d .before .before .before .before), rw word-length at (d .write-load-word .ensures .1))
 
 add-word : tie.Need-add-word Inv-loop μ-loop
-add-word c = let d = c .before .before .before .before in omega (arith, d .before .before .before .before .before .before .before .before)
+add-word c = let d = c .before .before .before .before in omega (arith, word-below (d .before .before .before .before))
 
 loop-less : tie.Need-loop-less Inv-loop μ-loop
 loop-less c = omega arith
@@ -65,8 +49,10 @@ loop-less c = omega arith
 loop-again : tie.Need-loop-again Inv-loop μ-loop
 loop-again c =
     let d = c .before .before .before .before in
-    let l = d .before .before .before .before .before .before .before .before in
-    next-count (l .before .loop .inv) (l .loop-test .taken) (d .write-load-word .ensures .0) (d .write-load-word .ensures .1)
+    let e = d .before .before .before in
+    let l = e .before in
+    let done = rw (e .word .ensures .0) at (d .write-load-word .ensures) in
+    next-count (l .before .loop .inv) (l .loop-test .taken) (done .0) (done .1)
 
 same-length : tie.Need-same-length Inv-loop μ-loop
 same-length c = omega arith
@@ -85,11 +71,7 @@ write-words-spec =
     Inv-loop
     μ-loop
     loop-holds
-    mul-s
-    mul-t
-    add-t
-    mul-source
-    add-source
+    word-requires
     write-load-word-requires
     add-count
     add-word
