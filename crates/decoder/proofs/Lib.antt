@@ -1,0 +1,3 @@
+-- Laws that the proofs of the decoder cite.
+pub mod Formats
+pub mod Texels

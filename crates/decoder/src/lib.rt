@@ -1,0 +1,6 @@
+// The pictures of tmem.rs: a texel, rows of them, and the two pictures of a tile, alone or with the trail of their reads.
+mod direct;
+mod format;
+mod load;
+mod palette;
+mod texel;
