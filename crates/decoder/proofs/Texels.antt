@@ -31,4 +31,4 @@ module _ (t : Tile) (mode lane : ℕ) (odd : Bool) (rel x : ℕ) where
       → Decodes (paletted t mode lane odd rel x) bank (record { channels = channels; reads = l .at ∷ entryAt i lane ∷ (entryAt i lane + 1) ∷ 0 ∷ []; count = 3 })
   unfolding paletted given trail
   paletted-is bank base i l channels eb el ei e =
-      rw (e, ei, el, eb) (record { channels = take-all _ _ (le-refl _); reads = refl; few = omega arith })
+      rw (e, ei, el, eb) (record { channels = take-all _ _ (le-refl _); reads = refl; few = omega arith; full = refl })

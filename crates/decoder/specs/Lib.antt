@@ -1,3 +1,4 @@
 -- What the contracts inside the decoder cite beside the rules.
 pub mod Formats
 pub mod Steps
+pub mod Rows

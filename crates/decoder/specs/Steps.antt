@@ -17,6 +17,7 @@ pub record Decodes (r : Reading) (bank : List ℕ) (t : Texel) : Type 0 where
   pub channels : take (length (given r bank)) (t .channels) ≡ given r bank
   pub reads : take (t .count) (t .reads) ≡ trail r bank
   pub few : t .count ≤ 4
+  pub full : length (t .reads) ≡ 4
 
 -- the fields of a tile that a picture goes by are in their ranges
 pub record Inside (t : Tile) : Type 0 where

@@ -3,4 +3,7 @@ mod direct;
 mod format;
 mod load;
 mod palette;
+mod place;
+mod rows;
 mod texel;
+mod trail;

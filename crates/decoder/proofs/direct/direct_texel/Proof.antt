@@ -40,7 +40,7 @@ returns-3 c = rw (c .before .enum-told .given .1) (c .rgba32-texel .ensures)
 returns-4 : tie.Need-returns-4
 unfolding direct given trail
 returns-4 c =
-    rw (c .enum-told2 .given .1) (record { channels = refl; reads = refl; few = omega arith })
+    rw (c .enum-told2 .given .1) (record { channels = refl; reads = refl; few = omega arith; full = refl })
 
 pub direct-texel-spec : {M : Type 1} → statement M
 direct-texel-spec =

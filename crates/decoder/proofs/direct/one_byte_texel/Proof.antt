@@ -44,37 +44,37 @@ returns : tie.Need-returns
 unfolding direct given trail
 returns c =
     rw (c .before .enum-told .given .1, c .ci4-texel .ensures, c .before .before .before .load-byte .ensures)
-    (record { channels = refl; reads = refl; few = omega arith })
+    (record { channels = refl; reads = refl; few = omega arith; full = refl })
 
 returns-2 : tie.Need-returns-2
 unfolding direct given trail
 returns-2 c =
     rw (c .before .enum-told2 .given .1, c .decode-ia4 .ensures, c .before .before .before .load-byte .ensures)
-    (record { channels = refl; reads = refl; few = omega arith })
+    (record { channels = refl; reads = refl; few = omega arith; full = refl })
 
 returns-3 : tie.Need-returns-3
 unfolding direct given trail
 returns-3 c =
     rw (c .before .enum-told3 .given .1, c .decode-ia8 .ensures, c .before .before .before .load-byte .ensures)
-    (record { channels = refl; reads = refl; few = omega arith })
+    (record { channels = refl; reads = refl; few = omega arith; full = refl })
 
 returns-4 : tie.Need-returns-4
 unfolding direct given trail
 returns-4 c =
     rw (c .before .enum-told4 .given .1, c .decode-i4 .ensures, c .before .before .before .load-byte .ensures)
-    (record { channels = refl; reads = refl; few = omega arith })
+    (record { channels = refl; reads = refl; few = omega arith; full = refl })
 
 returns-5 : tie.Need-returns-5
 unfolding direct given trail
 returns-5 c =
     rw (c .enum-told5 .given .1, c .before .before .load-byte .ensures)
-    (record { channels = refl; reads = refl; few = omega arith })
+    (record { channels = refl; reads = refl; few = omega arith; full = refl })
 
 returns-6 : tie.Need-returns-6
 unfolding direct given trail
 returns-6 c =
     rw (c .enum-told6 .given .1, c .before .before .load-byte .ensures)
-    (record { channels = refl; reads = refl; few = omega arith })
+    (record { channels = refl; reads = refl; few = omega arith; full = refl })
 
 pub one-byte-texel-spec : {M : Type 1} → statement M
 one-byte-texel-spec =

@@ -36,7 +36,7 @@ returns c =
       c .load-byte-rgba324 .ensures,
       add-zero,
     )
-    (record { channels = refl; reads = refl; few = omega arith })
+    (record { channels = refl; reads = refl; few = omega arith; full = refl })
 
 pub rgba32-texel-spec : {M : Type 1} → statement M
 rgba32-texel-spec =

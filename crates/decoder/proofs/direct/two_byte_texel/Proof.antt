@@ -42,21 +42,21 @@ unfolding direct given trail
 returns c =
     let l = c .before .before .before .before in
     rw (c .before .before .enum-told .given .1, c .decode-rgba16-entry .ensures, c .before .entry-of .ensures, l .load-byte2 .ensures, l .before .load-byte .ensures)
-    (record { channels = refl; reads = refl; few = omega arith })
+    (record { channels = refl; reads = refl; few = omega arith; full = refl })
 
 returns-2 : tie.Need-returns-2
 unfolding direct given trail
 returns-2 c =
     let l = c .before .before .before .before in
     rw (c .before .before .enum-told2 .given .1, c .decode-ia16-entry .ensures, c .before .entry-of2 .ensures, l .load-byte2 .ensures, l .before .load-byte .ensures)
-    (record { channels = refl; reads = refl; few = omega arith })
+    (record { channels = refl; reads = refl; few = omega arith; full = refl })
 
 returns-3 : tie.Need-returns-3
 unfolding direct given trail
 returns-3 c =
     let l = c .before .before in
     rw (c .enum-told3 .given .1, l .load-byte2 .ensures, l .before .load-byte .ensures)
-    (record { channels = refl; reads = refl; few = omega arith })
+    (record { channels = refl; reads = refl; few = omega arith; full = refl })
 
 pub two-byte-texel-spec : {M : Type 1} → statement M
 two-byte-texel-spec =
