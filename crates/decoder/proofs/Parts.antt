@@ -9,7 +9,7 @@ use native.Mathlib.Omega.{arith}
 use lib.ListN.{length, take, drop, length-append, length-take, length-drop}
 use Rattle.rules.specs.Base.{over}
 use Rattle.rules.specs.Reading.{Reading, given, trail, upTo, encoded}
-use Rattle.rules.proofs.Over.{over-back}
+use Rattle.rules.proofs.Over.{length-over, over-back}
 use Rattle.rules.proofs.Readings.{given-more, encoded-more, length-encoded}
 use Rattle.decoder.specs.Rows.{told}
 
@@ -35,11 +35,16 @@ module _ {n : ℕ} {part whole : ℕ → List ℕ} {g : ℕ} (p : Parts n part w
   unfolding over
   begins old = rw (p .none)
 
-  -- one part more, as the part that was lent comes back
-  pub again : (i : ℕ) (old xs ys : List ℕ) → i < n → xs ≡ over (whole i) old
+  -- one part more, as the part that was lent comes back; the buffer keeps its length
+  pub again : (i : ℕ) (old xs ys : List ℕ) → i < n → g * n ≤ length old → xs ≡ over (whole i) old
       → ys ≡ over (part i) (take (length xs - g * i) (drop (g * i) xs))
-      → take (g * i) xs ++ (ys ++ drop (length xs - g * i) (drop (g * i) xs)) ≡ over (whole (i + 1)) old
-  again i old xs ys h ex ey = rw (p .more i h) (over-back _ _ _ _ _ _ ex (length-whole i (omega arith)) ey)
+      → let back = take (g * i) xs ++ (ys ++ drop (length xs - g * i) (drop (g * i) xs)) in
+      (back ≡ over (whole (i + 1)) old) × (length back ≡ length old)
+  again i old xs ys h l ex ey =
+      let e : take (g * i) xs ++ (ys ++ drop (length xs - g * i) (drop (g * i) xs)) ≡ over (whole (i + 1)) old =
+      rw (p .more i h) (over-back _ _ _ _ _ _ ex (length-whole i (omega arith)) ey) in
+      let fits : length (whole (i + 1)) ≤ length old = rw (length-whole (i + 1) (omega arith), add-one, mul-suc) (omega (arith, part-ends g i n h)) in
+      (e, ap length e ∙ length-over (whole (i + 1)) old fits)
 
 -- the part of a buffer from part i on has room for it
 pub room : (g i n : ℕ) (xs : List ℕ) → i < n → g * n ≤ length xs → g ≤ length (take (length xs - g * i) (drop (g * i) xs))
@@ -61,16 +66,11 @@ unfolding upTo trail encoded
 told-none true f bank = refl
 told-none false f bank = refl
 
-told-length : (o : Bool) (l : List ℕ) (g : ℕ) → length l ≡ g → length (told o l) ≡ cond o (2 * g) 0
+pub told-length : (o : Bool) (l : List ℕ) (g : ℕ) → length l ≡ g → length (told o l) ≡ cond o (2 * g) 0
 told-length true l g e = rw (length-encoded, e)
 told-length false l g e = refl
 
 -- what they tell the trail, one after the other
-pub told-parts : (o : Bool) (f : ℕ → Reading) (bank : List ℕ) (n g : ℕ) → ((i : ℕ) → length (trail (f i) bank) ≡ g)
-    → Parts n (λ i. told o (trail (f i) bank)) (λ i. told o (trail (upTo i f) bank)) (cond o (2 * g) 0)
-told-parts o f bank n g e =
-    record {
-      none = told-none o f bank;
-      more = λ i h. told-more o f bank i;
-      each = λ i h. told-length o (trail (f i) bank) g (e i);
-    }
+pub told-parts : (o : Bool) (f : ℕ → Reading) (bank : List ℕ) (n g : ℕ) → ((i : ℕ) → length (told o (trail (f i) bank)) ≡ g)
+    → Parts n (λ i. told o (trail (f i) bank)) (λ i. told o (trail (upTo i f) bank)) g
+told-parts o f bank n g e = record { none = told-none o f bank; more = λ i h. told-more o f bank i; each = λ i h. e i }

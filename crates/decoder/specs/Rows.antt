@@ -1,4 +1,4 @@
--- The plain picture and the lookup as one: rows of texels, each at its place. `pictureBy` is the rules' `lookup` or `plain`.
+-- The plain picture and the lookup as one: rows of texels, each at its place.
 use mathlib.Core.Bool.{Bool, true, false, cond}
 use mathlib.Core.List.{List, [], _∷_}
 use Prim.Native.Nat.{ℕ, _+_, _*_, _/_, _%_}
@@ -21,18 +21,12 @@ texelAt t mode lane p = texel t mode lane (p .odd) (p .rel) (p .x)
 unfoldable pub rowTexel : Bool → Tile → ℕ → ℕ → ℕ → ℕ → Reading
 rowTexel lookup t mode lane y i = texelAt t mode lane (placeAt lookup t mode y i)
 
--- the texels of a row, and the rows
-abbrev pub rowWidth : Bool → Tile → ℕ
-rowWidth lookup t = cond lookup 4096 (t .width)
+-- row y of so many texels, and so many of these rows
+unfoldable pub rowOf : Bool → Tile → ℕ → ℕ → ℕ → ℕ → Reading
+rowOf lookup t mode lane width y = upTo width (rowTexel lookup t mode lane y)
 
-abbrev pub rowCount : Bool → Tile → ℕ
-rowCount lookup t = cond lookup 4 (t .height)
-
-unfoldable pub rowBy : Bool → Tile → ℕ → ℕ → ℕ → Reading
-rowBy lookup t mode lane y = upTo (rowWidth lookup t) (rowTexel lookup t mode lane y)
-
-unfoldable pub pictureBy : Bool → Tile → ℕ → ℕ → Reading
-pictureBy lookup t mode lane = upTo (rowCount lookup t) (rowBy lookup t mode lane)
+unfoldable pub rowsOf : Bool → Tile → ℕ → ℕ → ℕ → ℕ → Reading
+rowsOf lookup t mode lane width rows = upTo rows (rowOf lookup t mode lane width)
 
 -- the first four of a list
 abbrev pub four : List ℕ → List ℕ
@@ -43,5 +37,5 @@ abbrev pub told : Bool → List ℕ → List ℕ
 told observe l = cond observe (encoded l) []
 
 -- the bytes of trail that a texel takes
-abbrev pub step : Bool → Tile → ℕ → ℕ
-step observe t mode = cond observe (2 * readsEach t mode) 0
+abbrev pub trailStep : Bool → Tile → ℕ → ℕ
+trailStep observe t mode = cond observe (2 * readsEach t mode) 0

@@ -1,16 +1,13 @@
 // Rows of texels. Each is written through the part of the lent picture that starts at its first byte, and its reads through
 // the part of the trail.
 ghost use mathlib.Core.Path.{_≡_};
-ghost use mathlib.Core.Bool.{true};
 ghost use Prim.Native.Nat.{_*_, _<_, _≤_};
 ghost use lib.ListN.{length};
 ghost use Rattle.rules.specs.Base.{over};
-ghost use Rattle.rules.specs.Reading.{given, trail, upTo};
-ghost use Rattle.rules.specs.Texdec.{formatOf, stepKnows};
+ghost use Rattle.rules.specs.Reading.{given, trail};
 ghost use Rattle.rdp.specs.View.{tileOf};
-ghost use Rattle.decoder.specs.Formats.{formatView};
-ghost use Rattle.decoder.specs.Steps.{Inside};
-ghost use Rattle.decoder.specs.Rows.{four, rowTexel, told, step};
+ghost use Rattle.decoder.specs.Steps.{Ready};
+ghost use Rattle.decoder.specs.Rows.{four, rowTexel, rowOf, rowsOf, told, trailStep};
 use crate::format::Format;
 use crate::place::place_of;
 use crate::texel::decode_texel_lane;
@@ -42,14 +39,10 @@ fn put_texel(
     out: &mut [u8],
     seen: &mut [u8],
 )
-    requires { ⌜ length (now bank) ≡ 4096 ⌝ }
-    requires { ⌜ Inside (tileOf tile) ⌝ }
-    requires { ⌜ formatView format ≡ formatOf (tile .fmt) (tile .siz) ⌝ }
-    requires { ⌜ stepKnows «tlut_fmt» (tile .fmt) (tile .siz) ≡ true ⌝ }
-    requires { ⌜ lane ≤ 3 ⌝ }
+    requires { ⌜ Ready (now bank) (tileOf tile) format «tlut_fmt» lane ⌝ }
     requires { ⌜ i < 4096 ⌝ }
     requires { ⌜ 4 ≤ length (now out) ⌝ }
-    requires { ⌜ step observe (tileOf tile) «tlut_fmt» ≤ length (now seen) ⌝ }
+    requires { ⌜ trailStep observe (tileOf tile) «tlut_fmt» ≤ length (now seen) ⌝ }
     ensures { λ _. ⌜ now (out .exit) ≡ over (given (rowTexel lookup (tileOf tile) «tlut_fmt» lane y i) (now (bank .entry))) (now (out .entry)) ⌝ }
     ensures { λ _. ⌜ now (seen .exit) ≡ over (told observe (trail (rowTexel lookup (tileOf tile) «tlut_fmt» lane y i) (now (bank .entry)))) (now (seen .entry)) ⌝ }
 {
@@ -69,5 +62,90 @@ fn put_texel(
     if observe {
         let reads = texel.reads;
         note_reads(reads, texel.count, seen);
+    }
+}
+
+// Row y, from the front of picture and trail on. A texel takes `step` bytes of trail: none where it is not observed.
+fn decode_row(
+    bank: &[u8],
+    tile: TileDescriptor,
+    format: Format,
+    tlut_fmt: u32,
+    lane: u32,
+    lookup: bool,
+    y: usize,
+    width: usize,
+    observe: bool,
+    step: usize,
+    out: &mut [u8],
+    seen: &mut [u8],
+)
+    requires { ⌜ Ready (now bank) (tileOf tile) format «tlut_fmt» lane ⌝ }
+    requires { ⌜ width ≤ 4096 ⌝ }
+    requires { ⌜ step ≡ trailStep observe (tileOf tile) «tlut_fmt» ⌝ }
+    requires { ⌜ 4 * width ≤ length (now out) ⌝ }
+    requires { ⌜ step * width ≤ length (now seen) ⌝ }
+    ensures { λ _. ⌜ now (out .exit) ≡ over (given (rowOf lookup (tileOf tile) «tlut_fmt» lane width y) (now (bank .entry))) (now (out .entry)) ⌝ }
+    ensures { λ _. ⌜ now (seen .exit) ≡ over (told observe (trail (rowOf lookup (tileOf tile) «tlut_fmt» lane width y) (now (bank .entry)))) (now (seen .entry)) ⌝ }
+{
+    for i in 0..width {
+        let o = 4 * i;
+        let s = step * i;
+        put_texel(
+            bank,
+            tile,
+            format,
+            tlut_fmt,
+            lane,
+            lookup,
+            y,
+            i,
+            observe,
+            &mut out[o..],
+            &mut seen[s..],
+        );
+    }
+}
+
+// Rows from 0 on. Row y is written through the part of the picture from 4 times width times y on, and of the trail likewise.
+pub(crate) fn decode_rows(
+    bank: &[u8],
+    tile: TileDescriptor,
+    format: Format,
+    tlut_fmt: u32,
+    lane: u32,
+    lookup: bool,
+    rows: usize,
+    width: usize,
+    observe: bool,
+    step: usize,
+    out: &mut [u8],
+    seen: &mut [u8],
+)
+    requires { ⌜ Ready (now bank) (tileOf tile) format «tlut_fmt» lane ⌝ }
+    requires { ⌜ width ≤ 4096 ⌝ }
+    requires { ⌜ step ≡ trailStep observe (tileOf tile) «tlut_fmt» ⌝ }
+    requires { ⌜ 4 * width * rows ≤ length (now out) ⌝ }
+    requires { ⌜ step * width * rows ≤ length (now seen) ⌝ }
+    ensures { λ _. ⌜ now (out .exit) ≡ over (given (rowsOf lookup (tileOf tile) «tlut_fmt» lane width rows) (now (bank .entry))) (now (out .entry)) ⌝ }
+    ensures { λ _. ⌜ now (seen .exit) ≡ over (told observe (trail (rowsOf lookup (tileOf tile) «tlut_fmt» lane width rows) (now (bank .entry)))) (now (seen .entry)) ⌝ }
+{
+    for y in 0..rows {
+        let o = 4 * width * y;
+        let s = step * width * y;
+        decode_row(
+            bank,
+            tile,
+            format,
+            tlut_fmt,
+            lane,
+            lookup,
+            y,
+            width,
+            observe,
+            step,
+            &mut out[o..],
+            &mut seen[s..],
+        );
     }
 }

@@ -17,7 +17,7 @@ texel-given : (c : tie.After-decode-texel-lane) → let a = c .before .before .b
     four (c .decode-texel-lane .result .channels) ≡ given (rowTexel (a .lookup) (tileOf (a .tile)) (a .«tlut-fmt») (a .lane) (a .y) (a .i)) (a .bank .now)
 texel-given c =
     let s = c .before .before .before .before .before in
-    put-given _ _ _ _ _ _ _ _ _ (c .before .place-of .ensures .0) (c .decode-texel-lane .ensures) (s .pre .1 .1 .1 .0)
+    put-given _ _ _ _ _ _ _ _ _ (c .before .place-of .ensures .0) (c .decode-texel-lane .ensures) (s .pre .0 .knows)
 
 texel-told : (c : tie.After-decode-texel-lane) → let a = c .before .before .before .before .before .args in
     take (c .decode-texel-lane .result .count) (c .decode-texel-lane .result .reads) ≡ trail (rowTexel (a .lookup) (tileOf (a .tile)) (a .«tlut-fmt») (a .lane) (a .y) (a .i)) (a .bank .now)
@@ -35,7 +35,8 @@ place-of-requires c κs = search needs
 decode-texel-lane-requires : tie.Need-decode-texel-lane-requires
 decode-texel-lane-requires c κs =
     let s = c .before .before .before .before in
-    (s .pre .0, (s .pre .1 .0, (s .pre .1 .1 .0, (s .pre .1 .1 .1 .1 .0, omega arith))))
+    let r = s .pre .0 in
+    (r .whole, (r .inside, (r .format, (r .slot, omega arith))))
 
 put-channels-requires : tie.Need-put-channels-requires
 put-channels-requires c κs = search needs
@@ -44,7 +45,7 @@ note-reads-requires : tie.Need-note-reads-requires
 note-reads-requires c κs =
     let d = c .before .before .before .before .before .before .before .before in
     let s = d .before .before .before .before .before in
-    let room = rw (c .before .before .if1 .taken) at (s .pre .1 .1 .1 .1 .1 .1 .1) in
+    let room = rw (c .before .before .if1 .taken) at (s .pre .1 .1 .1) in
     ((d .decode-texel-lane .ensures .few, d .decode-texel-lane .ensures .full), rw (texel-count d) room)
 
 same-length : tie.Need-same-length

@@ -4,7 +4,6 @@ use Rattle.decoder.proofs.Parts.{Parts, begins, again, room}
 use Rattle.rules.proofs.Readings.{encoded-append}
 use Rattle.rules.specs.Reading.{encoded}
 use Rattle.rules.specs.Base.{over}
-use borrow.Rule.Slice.PartMut.{same-len-mid}
 use lib.ListN.{length, getD, take, length-take}
 use native.Mathlib.Omega.{arith}
 use native.Mathlib.Numerals.{add-one}
@@ -67,11 +66,8 @@ loop-again : tie.Need-loop-again Inv-loop μ-loop
 loop-again c =
     let s = c .before .before .before .before .before in
     let a = s .before .before .args in
-    let p = parts (a .t1) (a .count) (omega arith) in (
-      omega arith,
-      again p (s .loop .i) _ _ _ (omega arith) (s .loop .inv .1) (c .before .before .note-read .ensures),
-      same-len-mid {X = ℕ} (2 * s .loop .i) (length (s .loop .seen) - 2 * s .loop .i) (s .loop .seen) (c .before .before .note-read .last .1 .0) (c .before .before .note-read .kept .1 .0) ∙ s .loop .inv .2,
-    )
+    let b = again (parts (a .t1) (a .count) (omega arith)) (s .loop .i) _ _ _ (omega arith) (omega arith) (s .loop .inv .1) (c .before .before .note-read .ensures) in
+    (omega arith, b .0, b .1)
 
 same-length : tie.Need-same-length Inv-loop μ-loop
 same-length c = c .before .loop .inv .2
