@@ -2,3 +2,4 @@
 pub mod Formats
 pub mod Steps
 pub mod Rows
+pub mod Asked

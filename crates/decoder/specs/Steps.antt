@@ -32,6 +32,10 @@ pub record Inside (t : Tile) : Type 0 where
   pub width : t .width ≤ 1024
   pub height : t .height ≤ 1024
 
+pub record Tiled (t : Tile) : Type 0 where
+  pub format : t .fmt ≤ 7
+  pub inside : Inside t
+
 -- what holds once nothing was refused: the bank, the tile with its format worked out, mode and lane are as a texel takes them
 pub record Ready (bank : List ℕ) (t : Tile) (f : Format) (mode lane : ℕ) : Type 0 where
   pub whole : length bank ≡ 4096

@@ -1,7 +1,8 @@
 // What the texel step makes of a pair of format and size, by the bytes that a texel has.
 ghost use mathlib.Core.Path.{_≡_};
+ghost use mathlib.Core.Bool.{cond};
 ghost use Prim.Native.Nat.{_≤_};
-ghost use Rattle.rules.specs.Texdec.{formatOf};
+ghost use Rattle.rules.specs.Texdec.{formatOf, tlut};
 ghost use Rattle.rules.specs.Picture.{formatReads};
 ghost use Rattle.decoder.specs.Formats.{formatView};
 
@@ -51,7 +52,7 @@ pub(crate) fn format_of(fmt: u32, siz: u32) -> Format
 }
 
 // The reads of a texel. A format that the step does not know has none.
-pub(crate) fn format_reads(format: Format) -> usize
+fn format_reads(format: Format) -> usize
     ensures { λ r. ⌜ r ≡ formatReads (formatView format) ⌝ }
 {
     match format {
@@ -60,4 +61,14 @@ pub(crate) fn format_reads(format: Format) -> usize
         Format::Rgba32 => 4,
         Format::Unknown => 0,
     }
+}
+
+// The reads of a texel of a format in a mode.
+pub(crate) fn reads_each(format: Format, tlut_fmt: u32) -> usize
+    ensures { λ r. ⌜ r ≡ cond (tlut «tlut_fmt») 3 (formatReads (formatView format)) ⌝ }
+{
+    if 2 <= tlut_fmt {
+        return 3;
+    }
+    format_reads(format)
 }

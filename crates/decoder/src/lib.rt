@@ -3,6 +3,7 @@ mod direct;
 mod format;
 mod load;
 mod palette;
+pub mod picture;
 mod place;
 mod rows;
 mod texel;
