@@ -2,6 +2,7 @@
 pub mod Counted
 pub mod Formats
 pub mod Lengths
+pub mod Outcomes
 pub mod Parts
 pub mod Placed
 pub mod Refusals
