@@ -1,60 +1,77 @@
-// Where a texel of a picture stands: its rel, whether its row is odd, and the x that picks its nibble.
+// Where the texels of a row stand: the rel of each, whether the row is odd, and the x that picks a nibble.
 ghost use mathlib.Core.Path.{_≡_};
 ghost use Prim.Native.Nat.{_<_, _≤_};
-ghost use Rattle.rules.specs.Picture.{column};
 ghost use Rattle.rdp.specs.View.{tileOf};
 ghost use Rattle.decoder.specs.Steps.{Inside};
-ghost use Rattle.decoder.specs.Rows.{placeAt};
+ghost use Rattle.decoder.specs.Rows.{RowBounds, scaleOf, rowAt, relIn, xIn};
 use rdp::tile::TileDescriptor;
 
-pub(crate) struct Place {
-    pub(crate) rel: usize,
+// Texel i is at rel `start` and i times `scale` halves more, and its x is `first_x` and i times `x_step` more.
+pub(crate) struct Row {
     pub(crate) odd: bool,
-    pub(crate) x: usize,
+    pub(crate) start: usize,
+    pub(crate) scale: usize,
+    pub(crate) first_x: usize,
+    pub(crate) x_step: usize,
 }
 
-// The bytes of a row before its texel x.
-fn column(tile: TileDescriptor, tlut_fmt: u32, x: usize) -> usize
-    requires { ⌜ x < 4096 ⌝ }
-    ensures { λ r. ⌜ r ≡ column (tileOf tile) «tlut_fmt» x ⌝ }
-    ensures { λ r. ⌜ r ≤ 8190 ⌝ }
+// The halves of a byte that a texel takes in its row.
+fn scale_of(tile: TileDescriptor, tlut_fmt: u32) -> usize
+    ensures { λ r. ⌜ r ≡ scaleOf (tileOf tile) «tlut_fmt» ⌝ }
+    ensures { λ r. ⌜ r ≤ 4 ⌝ }
 {
     if (tile.fmt == 1) & (2 <= tlut_fmt) {
-        return x;
+        return 2;
     }
     let siz = tile.siz;
     match siz {
-        0 => x / 2,
-        1 => x,
-        _ => 2 * x,
+        0 => 1,
+        1 => 2,
+        _ => 4,
     }
 }
 
-// Texel i of row y, in the lookup or in the plain picture.
-pub(crate) fn place_of(
-    tile: TileDescriptor,
-    tlut_fmt: u32,
-    lookup: bool,
-    y: usize,
-    i: usize,
-) -> Place
+// Row y of the lookup or of the plain picture.
+pub(crate) fn row_at(tile: TileDescriptor, tlut_fmt: u32, lookup: bool, y: usize) -> Row
     requires { ⌜ Inside (tileOf tile) ⌝ }
-    requires { ⌜ i < 4096 ⌝ }
-    ensures { λ r. ⌜ r ≡ placeAt lookup (tileOf tile) «tlut_fmt» y i ⌝ }
-    ensures { λ r. ⌜ r .rel < 2000000 ⌝ }
+    ensures { λ r. ⌜ r ≡ rowAt lookup (tileOf tile) «tlut_fmt» y ⌝ }
+    ensures { λ r. ⌜ RowBounds r ⌝ }
 {
     if lookup {
-        return Place {
-            rel: i,
+        return Row {
             odd: y / 2 % 2 == 1,
-            x: y % 2,
+            start: 0,
+            scale: 2,
+            first_x: y % 2,
+            x_step: 0,
         };
     }
     let line = tile.line;
     let stride = line.bytes();
-    Place {
-        rel: y % 256 * stride.0 + column(tile, tlut_fmt, i),
+    Row {
         odd: y % 2 == 1,
-        x: i,
+        start: y % 256 * stride.0,
+        scale: scale_of(tile, tlut_fmt),
+        first_x: 0,
+        x_step: 1,
+    }
+}
+
+impl Row {
+    pub(crate) fn rel(self, i: usize) -> usize
+        requires { ⌜ RowBounds self ⌝ }
+        requires { ⌜ i < 4096 ⌝ }
+        ensures { λ r. ⌜ r ≡ relIn self i ⌝ }
+        ensures { λ r. ⌜ r < 2000000 ⌝ }
+    {
+        self.start + i * self.scale / 2
+    }
+
+    pub(crate) fn x(self, i: usize) -> usize
+        requires { ⌜ RowBounds self ⌝ }
+        requires { ⌜ i < 4096 ⌝ }
+        ensures { λ r. ⌜ r ≡ xIn self i ⌝ }
+    {
+        self.first_x + i * self.x_step
     }
 }

@@ -7,9 +7,10 @@ ghost use Rattle.rules.specs.Base.{over};
 ghost use Rattle.rules.specs.Reading.{given, trail};
 ghost use Rattle.rdp.specs.View.{tileOf};
 ghost use Rattle.decoder.specs.Steps.{Ready};
-ghost use Rattle.decoder.specs.Rows.{four, rowTexel, rowOf, rowsOf, told, trailStep};
+ghost use Rattle.decoder.specs.Rows.{four, RowBounds, rowTexel, rowOf, rowsOf, told, trailStep};
 use crate::format::Format;
-use crate::place::place_of;
+use crate::place::Row;
+use crate::place::row_at;
 use crate::texel::decode_texel_lane;
 use crate::trail::note_reads;
 use rdp::tile::TileDescriptor;
@@ -25,38 +26,30 @@ fn put_channels(channels: [u8; 4], out: &mut [u8])
     out[3] = channels[3];
 }
 
-// Texel i of row y goes to the front of the picture, and its reads to the front of the trail if it is observed.
+// Texel i of a row goes to the front of the picture, and its reads to the front of the trail if it is observed.
 fn put_texel(
     bank: &[u8],
     tile: TileDescriptor,
     format: Format,
     tlut_fmt: u32,
     lane: u32,
-    lookup: bool,
-    y: usize,
+    row: Row,
     i: usize,
     observe: bool,
     out: &mut [u8],
     seen: &mut [u8],
 )
     requires { ⌜ Ready (now bank) (tileOf tile) format «tlut_fmt» lane ⌝ }
+    requires { ⌜ RowBounds row ⌝ }
     requires { ⌜ i < 4096 ⌝ }
     requires { ⌜ 4 ≤ length (now out) ⌝ }
     requires { ⌜ trailStep observe (tileOf tile) «tlut_fmt» ≤ length (now seen) ⌝ }
-    ensures { λ _. ⌜ now (out .exit) ≡ over (given (rowTexel lookup (tileOf tile) «tlut_fmt» lane y i) (now (bank .entry))) (now (out .entry)) ⌝ }
-    ensures { λ _. ⌜ now (seen .exit) ≡ over (told observe (trail (rowTexel lookup (tileOf tile) «tlut_fmt» lane y i) (now (bank .entry)))) (now (seen .entry)) ⌝ }
+    ensures { λ _. ⌜ now (out .exit) ≡ over (given (rowTexel (tileOf tile) «tlut_fmt» lane row i) (now (bank .entry))) (now (out .entry)) ⌝ }
+    ensures { λ _. ⌜ now (seen .exit) ≡ over (told observe (trail (rowTexel (tileOf tile) «tlut_fmt» lane row i) (now (bank .entry)))) (now (seen .entry)) ⌝ }
 {
-    let place = place_of(tile, tlut_fmt, lookup, y, i);
-    let texel = decode_texel_lane(
-        bank,
-        tile,
-        format,
-        tlut_fmt,
-        lane,
-        place.rel,
-        place.odd,
-        place.x,
-    );
+    let rel = row.rel(i);
+    let x = row.x(i);
+    let texel = decode_texel_lane(bank, tile, format, tlut_fmt, lane, rel, row.odd, x);
     let channels = texel.channels;
     put_channels(channels, out);
     if observe {
@@ -65,15 +58,14 @@ fn put_texel(
     }
 }
 
-// Row y, from the front of picture and trail on. A texel takes `step` bytes of trail: none where it is not observed.
+// A row, from the front of picture and trail on. A texel takes `step` bytes of trail: none where it is not observed.
 fn decode_row(
     bank: &[u8],
     tile: TileDescriptor,
     format: Format,
     tlut_fmt: u32,
     lane: u32,
-    lookup: bool,
-    y: usize,
+    row: Row,
     width: usize,
     observe: bool,
     step: usize,
@@ -81,12 +73,13 @@ fn decode_row(
     seen: &mut [u8],
 )
     requires { ⌜ Ready (now bank) (tileOf tile) format «tlut_fmt» lane ⌝ }
+    requires { ⌜ RowBounds row ⌝ }
     requires { ⌜ width ≤ 4096 ⌝ }
     requires { ⌜ step ≡ trailStep observe (tileOf tile) «tlut_fmt» ⌝ }
     requires { ⌜ 4 * width ≤ length (now out) ⌝ }
     requires { ⌜ step * width ≤ length (now seen) ⌝ }
-    ensures { λ _. ⌜ now (out .exit) ≡ over (given (rowOf lookup (tileOf tile) «tlut_fmt» lane width y) (now (bank .entry))) (now (out .entry)) ⌝ }
-    ensures { λ _. ⌜ now (seen .exit) ≡ over (told observe (trail (rowOf lookup (tileOf tile) «tlut_fmt» lane width y) (now (bank .entry)))) (now (seen .entry)) ⌝ }
+    ensures { λ _. ⌜ now (out .exit) ≡ over (given (rowOf (tileOf tile) «tlut_fmt» lane width row) (now (bank .entry))) (now (out .entry)) ⌝ }
+    ensures { λ _. ⌜ now (seen .exit) ≡ over (told observe (trail (rowOf (tileOf tile) «tlut_fmt» lane width row) (now (bank .entry)))) (now (seen .entry)) ⌝ }
 {
     for i in 0..width {
         let o = 4 * i;
@@ -97,8 +90,7 @@ fn decode_row(
             format,
             tlut_fmt,
             lane,
-            lookup,
-            y,
+            row,
             i,
             observe,
             &mut out[o..],
@@ -131,6 +123,7 @@ pub(crate) fn decode_rows(
     ensures { λ _. ⌜ now (seen .exit) ≡ over (told observe (trail (rowsOf lookup (tileOf tile) «tlut_fmt» lane width rows) (now (bank .entry)))) (now (seen .entry)) ⌝ }
 {
     for y in 0..rows {
+        let row = row_at(tile, tlut_fmt, lookup, y);
         let o = 4 * width * y;
         let s = step * width * y;
         decode_row(
@@ -139,8 +132,7 @@ pub(crate) fn decode_rows(
             format,
             tlut_fmt,
             lane,
-            lookup,
-            y,
+            row,
             width,
             observe,
             step,

@@ -13,15 +13,15 @@ use Rattle.decoder.proofs.rows.decode_row.Statement.{statement}
 use Rattle.decoder.proofs.rows.decode_row.Tie as tie
 
 abbrev Inv-loop : tie.InvT-loop
-Inv-loop bank tile format tlut-fmt lane lookup y width observe step out₀ seen₀ i₀ out seen i =
+Inv-loop bank tile format tlut-fmt lane row width observe step out₀ seen₀ i₀ out seen i =
     (i ≤ width)
-    × (out ≡ over (given (upTo i (rowTexel lookup (tileOf tile) tlut-fmt lane y)) bank) out₀)
-    × (seen ≡ over (told observe (trail (upTo i (rowTexel lookup (tileOf tile) tlut-fmt lane y)) bank)) seen₀)
+    × (out ≡ over (given (upTo i (rowTexel (tileOf tile) tlut-fmt lane row)) bank) out₀)
+    × (seen ≡ over (told observe (trail (upTo i (rowTexel (tileOf tile) tlut-fmt lane row)) bank)) seen₀)
     × (length out ≡ length out₀)
     × (length seen ≡ length seen₀)
 
 abbrev μ-loop : tie.MeasureT-loop
-μ-loop bank tile format tlut-fmt lane lookup y width observe step out₀ seen₀ i₀ out seen i = width - i
+μ-loop bank tile format tlut-fmt lane row width observe step out₀ seen₀ i₀ out seen i = width - i
 
 -- the function's entry, and where the trail of a texel ends
 abbrev start : tie.At-loop Inv-loop μ-loop → tie.Start Inv-loop μ-loop
@@ -36,8 +36,8 @@ loop-holds c =
     let s = c .before .before .before in
     let a = s .args in (
       omega arith,
-      begins (row-given (a .lookup) (tileOf (a .tile)) (a .«tlut-fmt») (a .lane) (a .bank .now) (a .y) 0 (s .pre .0 .knows)) _,
-      begins (row-told (a .lookup) (tileOf (a .tile)) (a .«tlut-fmt») (a .lane) (a .bank .now) (a .observe) _ (a .y) 0 refl) _,
+      begins (row-given (tileOf (a .tile)) (a .«tlut-fmt») (a .lane) (a .bank .now) (a .row) 0 (s .pre .0 .knows)) _,
+      begins (row-told (tileOf (a .tile)) (a .«tlut-fmt») (a .lane) (a .bank .now) (a .row) 0 (a .observe) _ refl) _,
       refl,
       refl,
     )
@@ -73,7 +73,7 @@ put-texel-requires c κs =
     let a = start s .args in
     let bytes = room 4 (s .loop .i) (a .width) (s .loop .out) (omega arith) (omega arith) in
     let told = room (a .step) (s .loop .i) (a .width) (s .loop .seen) (omega arith) (omega arith) in
-    (p .0, (omega arith, (bytes, rw (← p .1 .1 .0) told)))
+    (p .0, (p .1 .0, (omega arith, (bytes, rw (← p .1 .1 .1 .0) told))))
 
 add-i : tie.Need-add-i Inv-loop μ-loop
 add-i c = omega arith
@@ -87,10 +87,10 @@ loop-again c =
     let a = start s .args in
     let p = start s .pre in
     let t = c .before .before .before .before .put-texel in
-    let given = row-given (a .lookup) (tileOf (a .tile)) (a .«tlut-fmt») (a .lane) (a .bank .now) (a .y) (a .width) (p .0 .knows) in
-    let told = row-told (a .lookup) (tileOf (a .tile)) (a .«tlut-fmt») (a .lane) (a .bank .now) (a .observe) (a .step) (a .y) (a .width) (p .1 .1 .0) in
-    let o = again given (s .loop .i) _ _ _ (omega arith) (p .1 .1 .1 .0) (s .loop .inv .1) (t .ensures .0) in
-    let q = again told (s .loop .i) _ _ _ (omega arith) (p .1 .1 .1 .1) (s .loop .inv .2) (t .ensures .1) in
+    let given = row-given (tileOf (a .tile)) (a .«tlut-fmt») (a .lane) (a .bank .now) (a .row) (a .width) (p .0 .knows) in
+    let told = row-told (tileOf (a .tile)) (a .«tlut-fmt») (a .lane) (a .bank .now) (a .row) (a .width) (a .observe) (a .step) (p .1 .1 .1 .0) in
+    let o = again given (s .loop .i) _ _ _ (omega arith) (p .1 .1 .1 .1 .0) (s .loop .inv .1) (t .ensures .0) in
+    let q = again told (s .loop .i) _ _ _ (omega arith) (p .1 .1 .1 .1 .1) (s .loop .inv .2) (t .ensures .1) in
     (omega arith, o .0, q .0, o .1, q .1)
 
 same-length : tie.Need-same-length Inv-loop μ-loop

@@ -13,28 +13,31 @@ use Rattle.decoder.proofs.rows.put_texel.Statement.{statement}
 use Rattle.decoder.proofs.rows.put_texel.Tie as tie
 
 -- what the decoded texel gives, tells and counts
-texel-given : (c : tie.After-decode-texel-lane) → let a = c .before .before .before .before .before .args in
-    four (c .decode-texel-lane .result .channels) ≡ given (rowTexel (a .lookup) (tileOf (a .tile)) (a .«tlut-fmt») (a .lane) (a .y) (a .i)) (a .bank .now)
+texel-given : (c : tie.After-decode-texel-lane) → let a = c .before .before .before .before .before .before .args in
+    four (c .decode-texel-lane .result .channels) ≡ given (rowTexel (tileOf (a .tile)) (a .«tlut-fmt») (a .lane) (a .row) (a .i)) (a .bank .now)
 texel-given c =
-    let s = c .before .before .before .before .before in
-    put-given _ _ _ _ _ _ _ _ _ (c .before .place-of .ensures .0) (c .decode-texel-lane .ensures) (s .pre .0 .knows)
+    let s = c .before .before .before .before .before .before in
+    put-given _ _ _ _ _ _ _ _ _ (c .before .before .rel .ensures .0) (c .before .x .ensures) (c .decode-texel-lane .ensures) (s .pre .0 .knows)
 
-texel-told : (c : tie.After-decode-texel-lane) → let a = c .before .before .before .before .before .args in
-    take (c .decode-texel-lane .result .count) (c .decode-texel-lane .result .reads) ≡ trail (rowTexel (a .lookup) (tileOf (a .tile)) (a .«tlut-fmt») (a .lane) (a .y) (a .i)) (a .bank .now)
-texel-told c = put-reads _ _ _ _ _ _ _ _ _ (c .before .place-of .ensures .0) (c .decode-texel-lane .ensures)
+texel-told : (c : tie.After-decode-texel-lane) → let a = c .before .before .before .before .before .before .args in
+    take (c .decode-texel-lane .result .count) (c .decode-texel-lane .result .reads) ≡ trail (rowTexel (tileOf (a .tile)) (a .«tlut-fmt») (a .lane) (a .row) (a .i)) (a .bank .now)
+texel-told c = put-reads _ _ _ _ _ _ _ _ _ (c .before .before .rel .ensures .0) (c .before .x .ensures) (c .decode-texel-lane .ensures)
 
-texel-count : (c : tie.After-decode-texel-lane) → let a = c .before .before .before .before .before .args in
+texel-count : (c : tie.After-decode-texel-lane) → let a = c .before .before .before .before .before .before .args in
     c .decode-texel-lane .result .count ≡ readsEach (tileOf (a .tile)) (a .«tlut-fmt»)
 texel-count c =
-    let a = c .before .before .before .before .before .args in
-    put-count (a .lookup) _ _ (a .lane) (a .y) (a .i) (a .bank .now) _ _ (c .before .place-of .ensures .0) (c .decode-texel-lane .ensures)
+    let a = c .before .before .before .before .before .before .args in
+    put-count _ _ (a .lane) (a .row) (a .i) (a .bank .now) _ _ _ (c .before .before .rel .ensures .0) (c .before .x .ensures) (c .decode-texel-lane .ensures)
 
-place-of-requires : tie.Need-place-of-requires
-place-of-requires c κs = search needs
+rel-requires : tie.Need-rel-requires
+rel-requires c κs = search needs
+
+x-requires : tie.Need-x-requires
+x-requires c κs = search needs
 
 decode-texel-lane-requires : tie.Need-decode-texel-lane-requires
 decode-texel-lane-requires c κs =
-    let s = c .before .before .before .before in
+    let s = c .before .before .before .before .before in
     let r = s .pre .0 in
     (r .whole, (r .inside, (r .format, (r .slot, omega arith))))
 
@@ -44,8 +47,8 @@ put-channels-requires c κs = search needs
 note-reads-requires : tie.Need-note-reads-requires
 note-reads-requires c κs =
     let d = c .before .before .before .before .before .before .before .before in
-    let s = d .before .before .before .before .before in
-    let room = rw (c .before .before .if1 .taken) at (s .pre .1 .1 .1) in
+    let s = d .before .before .before .before .before .before in
+    let room = rw (c .before .before .if1 .taken) at (s .pre .1 .1 .1 .1) in
     ((d .decode-texel-lane .ensures .few, d .decode-texel-lane .ensures .full), rw (texel-count d) room)
 
 same-length : tie.Need-same-length
@@ -75,7 +78,8 @@ pub put-texel-spec : {M : Type 1} → statement M
 put-texel-spec =
     tie.close
     (tie.spec
-    place-of-requires
+    rel-requires
+    x-requires
     decode-texel-lane-requires
     put-channels-requires
     note-reads-requires
