@@ -1,0 +1,101 @@
+-- Laws of the first refusal of two lists of tests, and of the test for an unknown pair.
+use mathlib.Core.Path.{_≡_, refl, sym, _∙_}
+use mathlib.Core.Bool.{Bool, true, false, cond, not, _&&_, _||_}
+use mathlib.Core.List.{List, [], _∷_, _++_}
+use Prim.Native.Nat.{ℕ, _*_, _/_}
+use native.Mathlib.Omega.{arith}
+use lib.Dec.{eqb, ltb}
+use lib.ListN.{length}
+use Rattle.rules.specs.Reading.{trail}
+use Rattle.rules.specs.Tile.{Tile}
+use Rattle.rules.specs.Texdec.{Format, rgba16, rgba32, ci4, ci8, ci16, ia4, ia8, ia16, i4, i8, unknown, formatOf, known, tlut, stepKnows}
+use Rattle.rules.specs.Picture.{formatReads, readsEach}
+use Rattle.rules.specs.Refusal.{Test, first}
+use Rattle.rules.specs.Calls.{shortPicture, shortTrail, unknownPair}
+use Rattle.rules.proofs.Refused.{Numbered}
+use Rattle.decoder.proofs.Counted.{reads-count}
+use Rattle.decoder.specs.Asked.{readingBy, texelsBy, earlyTests, testsBy}
+
+-- where the first list refuses, so do both
+pub first-stops : (l m : List Test) → (first l ≡ 0 → ⊥) → first (l ++ m) ≡ first l
+unfolding first
+first-stops [] m h = absurd (h refl)
+first-stops (t ∷ l) m h = go (t .fails) h (first-stops l m)
+  where
+    go : (b : Bool) → (cond b (t .number) (first l) ≡ 0 → ⊥) → ((first l ≡ 0 → ⊥) → first (l ++ m) ≡ first l)
+        → cond b (t .number) (first (l ++ m)) ≡ cond b (t .number) (first l)
+    go true h ih = refl
+    go false h ih = ih h
+
+-- where it refuses nothing, the second decides
+pub first-goes-on : (l m : List Test) → Numbered l → first l ≡ 0 → first (l ++ m) ≡ first m
+unfolding first Numbered
+first-goes-on [] m n h = refl
+first-goes-on (t ∷ l) m n h = go (t .fails) h (first-goes-on l m (n .1))
+  where
+    go : (b : Bool) → cond b (t .number) (first l) ≡ 0 → (first l ≡ 0 → first (l ++ m) ≡ first m) → cond b (t .number) (first (l ++ m)) ≡ first m
+    go true h ih = absurd (n .0 h)
+    go false h ih = ih h
+
+format-none : (f : Format) → eqb (formatReads f) 0 ≡ not (known f)
+format-none rgba16 = refl
+format-none rgba32 = refl
+format-none ci4 = refl
+format-none ci8 = refl
+format-none ci16 = refl
+format-none ia4 = refl
+format-none ia8 = refl
+format-none ia16 = refl
+format-none i4 = refl
+format-none i8 = refl
+format-none unknown = refl
+
+-- a pair is unknown to the step where its texels make no reads
+pub reads-none : (t : Tile) (mode : ℕ) → eqb (readsEach t mode) 0 ≡ not (stepKnows mode (t .fmt) (t .siz))
+unfolding readsEach
+reads-none t mode = go (tlut mode)
+  where
+    go : (b : Bool) → eqb (cond b 3 (formatReads (formatOf (t .fmt) (t .siz)))) 0 ≡ not (b || known (formatOf (t .fmt) (t .siz)))
+    go true = refl
+    go false = format-none (formatOf (t .fmt) (t .siz))
+
+-- the tests of the buffers, and of the unknown pair
+late : Bool → Bool → List ℕ → Tile → ℕ → ℕ → List ℕ → List ℕ → List Test
+late true looked bank t mode lane out seen =
+    shortPicture (texelsBy looked t) out ∷ shortTrail (readingBy looked t mode lane) bank seen ∷ unknownPair t mode ∷ []
+late false looked bank t mode lane out seen = shortPicture (texelsBy looked t) out ∷ unknownPair t mode ∷ []
+
+module _ (observe looked : Bool) (bank : List ℕ) (t : Tile) (mode lane : ℕ) (out seen : List ℕ) where
+  whole : testsBy observe looked bank t mode lane out seen ≡ earlyTests bank t mode lane ++ late observe looked bank t mode lane out seen
+  unfolding late
+  whole = go observe
+    where
+      go : (b : Bool) → testsBy b looked bank t mode lane out seen ≡ earlyTests bank t mode lane ++ late b looked bank t mode lane out seen
+      go true = refl
+      go false = refl
+
+  late-first : (texels each : ℕ) → texels ≡ texelsBy looked t → each ≡ readsEach t mode
+      → cond (ltb (length out) (4 * texels)) 6 (cond (observe && ltb (length seen / 2) (each * texels)) 7 (cond (eqb each 0) 9 0))
+      ≡ first (late observe looked bank t mode lane out seen)
+  unfolding late first
+  late-first texels each et ee = rw (ee, et, ← reads-count looked t mode lane bank, reads-none t mode) (go observe)
+    where
+      go : (b : Bool)
+          → cond (ltb (length out) (4 * texelsBy looked t)) 6 (cond (b && ltb (length seen / 2) (length (trail (readingBy looked t mode lane) bank))) 7 (cond (not (stepKnows mode (t .fmt) (t .siz))) 9 0))
+          ≡ first (late b looked bank t mode lane out seen)
+      go true = refl
+      go false = refl
+
+  -- an early refusal is the call's
+  pub refusal-early : (n : ℕ) → n ≡ first (earlyTests bank t mode lane) → (n ≡ 0 → ⊥) → n ≡ first (testsBy observe looked bank t mode lane out seen)
+  refusal-early n e h = rw whole (e ∙ sym (first-stops (earlyTests bank t mode lane) _ (λ z. h (e ∙ z))))
+
+  -- where there is none, the tests of the buffers decide
+  pub refusal-late : (texels each : ℕ) → first (earlyTests bank t mode lane) ≡ 0 → texels ≡ texelsBy looked t → each ≡ readsEach t mode
+      → cond (ltb (length out) (4 * texels)) 6 (cond (observe && ltb (length seen / 2) (each * texels)) 7 (cond (eqb each 0) 9 0))
+      ≡ first (testsBy observe looked bank t mode lane out seen)
+  unfolding Numbered
+  refusal-late texels each e et ee =
+      rw whole
+      (late-first texels each et ee
+      ∙ sym (first-goes-on (earlyTests bank t mode lane) _ ((λ z. omega arith), ((λ z. omega arith), ((λ z. omega arith), ((λ z. omega arith), ((λ z. omega arith), tt))))) e))

@@ -1,0 +1,90 @@
+-- `decoder::rows::put_texel` writes the texel at its place, and its reads where it is observed.
+use Rattle.decoder.proofs.Placed.{put-given, put-reads, put-count}
+use lib.ListN.{take}
+use Rattle.rules.specs.Base.{over}
+use Rattle.rules.specs.Reading.{given, trail}
+use Rattle.rules.specs.Picture.{readsEach}
+use Rattle.rdp.specs.View.{tileOf}
+use Rattle.decoder.specs.Rows.{four, rowTexel}
+use native.Mathlib.Omega.{arith}
+use mathlib.Core.Path.{_≡_}
+use borrow.Author.Needs.{needs}
+use Rattle.decoder.proofs.rows.put_texel.Statement.{statement}
+use Rattle.decoder.proofs.rows.put_texel.Tie as tie
+
+-- what the decoded texel gives, tells and counts
+texel-given : (c : tie.After-decode-texel-lane) → let a = c .before .before .before .before .before .before .args in
+    four (c .decode-texel-lane .result .channels) ≡ given (rowTexel (tileOf (a .tile)) (a .«tlut-fmt») (a .lane) (a .row) (a .i)) (a .bank .now)
+texel-given c =
+    let s = c .before .before .before .before .before .before in
+    put-given _ _ _ _ _ _ _ _ _ (c .before .before .rel .ensures .0) (c .before .x .ensures) (c .decode-texel-lane .ensures) (s .pre .0 .knows)
+
+texel-told : (c : tie.After-decode-texel-lane) → let a = c .before .before .before .before .before .before .args in
+    take (c .decode-texel-lane .result .count) (c .decode-texel-lane .result .reads) ≡ trail (rowTexel (tileOf (a .tile)) (a .«tlut-fmt») (a .lane) (a .row) (a .i)) (a .bank .now)
+texel-told c = put-reads _ _ _ _ _ _ _ _ _ (c .before .before .rel .ensures .0) (c .before .x .ensures) (c .decode-texel-lane .ensures)
+
+texel-count : (c : tie.After-decode-texel-lane) → let a = c .before .before .before .before .before .before .args in
+    c .decode-texel-lane .result .count ≡ readsEach (tileOf (a .tile)) (a .«tlut-fmt»)
+texel-count c =
+    let a = c .before .before .before .before .before .before .args in
+    put-count _ _ (a .lane) (a .row) (a .i) (a .bank .now) _ _ _ (c .before .before .rel .ensures .0) (c .before .x .ensures) (c .decode-texel-lane .ensures)
+
+rel-requires : tie.Need-rel-requires
+rel-requires c κs = search needs
+
+x-requires : tie.Need-x-requires
+x-requires c κs = search needs
+
+decode-texel-lane-requires : tie.Need-decode-texel-lane-requires
+decode-texel-lane-requires c κs =
+    let s = c .before .before .before .before .before in
+    let r = s .pre .0 in
+    (r .whole, (r .inside, (r .format, (r .slot, omega arith))))
+
+put-channels-requires : tie.Need-put-channels-requires
+put-channels-requires c κs = search needs
+
+note-reads-requires : tie.Need-note-reads-requires
+note-reads-requires c κs =
+    let d = c .before .before .before .before .before .before .before .before in
+    let s = d .before .before .before .before .before .before in
+    let room = rw (c .before .before .if1 .taken) at (s .pre .1 .1 .1 .1) in
+    ((d .decode-texel-lane .ensures .few, d .decode-texel-lane .ensures .full), rw (texel-count d) room)
+
+same-length : tie.Need-same-length
+same-length c = search needs
+
+same-length-2 : tie.Need-same-length-2
+same-length-2 c = search needs
+
+returns : tie.Need-returns
+returns c =
+    let p = c .before .before .before .before .before .before .before .before in
+    let d = p .before .before .before in (
+      rw (← texel-given d) (p .put-channels .ensures),
+      rw (c .before .before .before .before .before .if1 .taken, ← texel-told d) (c .before .before .note-reads .ensures),
+    )
+
+same-length-3 : tie.Need-same-length-3
+same-length-3 c = search needs
+
+returns-2 : tie.Need-returns-2
+unfolding over
+returns-2 c =
+    let p = c .before .before .before in
+    (rw (← texel-given (p .before .before .before)) (p .put-channels .ensures), rw (c .if1 .left))
+
+pub put-texel-spec : {M : Type 1} → statement M
+put-texel-spec =
+    tie.close
+    (tie.spec
+    rel-requires
+    x-requires
+    decode-texel-lane-requires
+    put-channels-requires
+    note-reads-requires
+    same-length
+    same-length-2
+    returns
+    same-length-3
+    returns-2)

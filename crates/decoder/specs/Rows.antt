@@ -1,0 +1,57 @@
+-- The plain picture and the lookup as one: rows of texels, each at its place.
+use mathlib.Core.Bool.{Bool, true, false, cond, _&&_}
+use mathlib.Core.List.{List, [], _∷_}
+use Prim.Native.Nat.{ℕ, _+_, _*_, _/_, _%_, _≤_}
+use lib.Dec.{eqb}
+use lib.ListN.{getD}
+use Rattle.rules.specs.Base.{odd}
+use Rattle.rules.specs.Reading.{Reading, upTo, encoded}
+use Rattle.rules.specs.Tile.{Tile}
+use Rattle.rules.specs.Texdec.{tlut}
+use Rattle.rules.specs.Picture.{texel, rowStart, readsEach}
+use Rattle.decoder.specs.declared.place.Row.{Row}
+
+-- the halves of a byte that a texel takes in its row
+abbrev pub scaleOf : Tile → ℕ → ℕ
+scaleOf t mode = cond (eqb (t .fmt) 1 && tlut mode) 2 (cond (eqb (t .siz) 0) 1 (cond (eqb (t .siz) 1) 2 4))
+
+-- row y
+abbrev pub rowAt : Bool → Tile → ℕ → ℕ → Row
+rowAt true t mode y = record { odd = odd (y / 2); start = 0; scale = 2; «first_x» = y % 2; «x_step» = 0 }
+rowAt false t mode y = record { odd = odd y; start = rowStart t y; scale = scaleOf t mode; «first_x» = 0; «x_step» = 1 }
+
+-- where texel i of a row stands
+abbrev pub relIn : Row → ℕ → ℕ
+relIn r i = r .start + i * r .scale / 2
+
+abbrev pub xIn : Row → ℕ → ℕ
+xIn r i = r .«first_x» + i * r .«x_step»
+
+-- the numbers of a row that a texel's place is computed from
+pub record RowBounds (r : Row) : Type 0 where
+  pub start : r .start ≤ 1042440
+  pub scale : r .scale ≤ 4
+  pub first : r .«first_x» ≤ 1
+  pub step : r .«x_step» ≤ 1
+
+-- texel i of a row, so many of them, and so many rows
+unfoldable pub rowTexel : Tile → ℕ → ℕ → Row → ℕ → Reading
+rowTexel t mode lane r i = texel t mode lane (r .odd) (relIn r i) (xIn r i)
+
+unfoldable pub rowOf : Tile → ℕ → ℕ → ℕ → Row → Reading
+rowOf t mode lane width r = upTo width (rowTexel t mode lane r)
+
+unfoldable pub rowsOf : Bool → Tile → ℕ → ℕ → ℕ → ℕ → Reading
+rowsOf lookup t mode lane width rows = upTo rows (λ y. rowOf t mode lane width (rowAt lookup t mode y))
+
+-- the first four of a list
+abbrev pub four : List ℕ → List ℕ
+four l = getD l 0 0 ∷ getD l 1 0 ∷ getD l 2 0 ∷ getD l 3 0 ∷ []
+
+-- what a trail receives of a list of addresses: all of it, or nothing where no trail is asked for
+abbrev pub told : Bool → List ℕ → List ℕ
+told observe l = cond observe (encoded l) []
+
+-- the bytes of trail that a texel takes
+abbrev pub trailStep : Bool → Tile → ℕ → ℕ
+trailStep observe t mode = cond observe (2 * readsEach t mode) 0

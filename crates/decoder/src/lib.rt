@@ -1,0 +1,10 @@
+// The pictures of tmem.rs: a texel, rows of them, and the two pictures of a tile, alone or with the trail of their reads.
+mod direct;
+mod format;
+mod load;
+mod palette;
+pub mod picture;
+mod place;
+mod rows;
+mod texel;
+mod trail;
