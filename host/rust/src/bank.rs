@@ -1,6 +1,5 @@
 //! The bank, and the calls on it.
-use crate::tile::call;
-use crate::{ffi, AddressMap, LaneMap, Refusal, Tile};
+use crate::{slices, AddressMap, LaneMap, Refusal, Tile};
 
 /// The bytes of a bank, and of a key.
 pub const BANK_BYTES: usize = 4096;
@@ -84,25 +83,7 @@ impl Bank {
     /// # Ok::<(), tulonkasa::Refusal>(())
     /// ```
     pub fn load_block(&mut self, source: &[u8], tile: &Tile, image_siz: u32, dxt: u32, words: u32) -> Result<u32, Refusal> {
-        // SAFETY: each pointer comes with its length, and the three borrows do not overlap.
-        let answer = unsafe {
-            ffi::tk_load_block(
-                self.bytes.as_mut_ptr(),
-                self.bytes.len(),
-                self.written.0.as_mut_ptr(),
-                self.written.0.len(),
-                source.as_ptr(),
-                source.len(),
-                tile.fmt,
-                tile.siz,
-                tile.line,
-                tile.tmem_addr,
-                image_siz,
-                dxt,
-                words,
-            )
-        };
-        Refusal::check(answer.refusal, answer.count)
+        slices::load_block(&mut self.bytes, &mut self.written.0, source, tile, image_siz, dxt, words)
     }
 
     /// Loads `rows` rows of `words` words each, `stride` source bytes apart, and answers the count of stores.
@@ -126,26 +107,7 @@ impl Bank {
         words: u32,
         stride: u32,
     ) -> Result<u32, Refusal> {
-        // SAFETY: each pointer comes with its length, and the three borrows do not overlap.
-        let answer = unsafe {
-            ffi::tk_load_tile(
-                self.bytes.as_mut_ptr(),
-                self.bytes.len(),
-                self.written.0.as_mut_ptr(),
-                self.written.0.len(),
-                source.as_ptr(),
-                source.len(),
-                tile.fmt,
-                tile.siz,
-                tile.line,
-                tile.tmem_addr,
-                image_siz,
-                rows,
-                words,
-                stride,
-            )
-        };
-        Refusal::check(answer.refusal, answer.count)
+        slices::load_tile(&mut self.bytes, &mut self.written.0, source, tile, image_siz, rows, words, stride)
     }
 
     /// Loads a palette of `rows` rows of `count` entries, `stride` source bytes apart, and answers the count of stores.
@@ -168,26 +130,7 @@ impl Bank {
         rows: u32,
         stride: u32,
     ) -> Result<u32, Refusal> {
-        // SAFETY: each pointer comes with its length, and the three borrows do not overlap.
-        let answer = unsafe {
-            ffi::tk_load_tlut(
-                self.bytes.as_mut_ptr(),
-                self.bytes.len(),
-                self.written.0.as_mut_ptr(),
-                self.written.0.len(),
-                source.as_ptr(),
-                source.len(),
-                tile.fmt,
-                tile.siz,
-                tile.line,
-                tile.tmem_addr,
-                image_siz,
-                count,
-                rows,
-                stride,
-            )
-        };
-        Refusal::check(answer.refusal, answer.count)
+        slices::load_tlut(&mut self.bytes, &mut self.written.0, source, tile, image_siz, count, rows, stride)
     }
 
     /// The tile's plain picture: `width` by `height` texels of four bytes.
@@ -209,9 +152,7 @@ impl Bank {
 
     /// The plain picture into a lent buffer, whose surplus stays as it is. Answers the count of reads.
     pub fn sample_tile_into(&self, tile: &Tile, lane: u32, picture: &mut [u8]) -> Result<u32, Refusal> {
-        let bank = &self.bytes;
-        let answer = call!(tk_sample_tile(bank.as_ptr(), bank.len(); tile, lane, picture.as_mut_ptr(), picture.len()));
-        Refusal::check(answer.refusal, answer.count)
+        slices::sample_tile(&self.bytes, tile, lane, picture)
     }
 
     /// The plain picture, with the addresses that were read.
@@ -224,12 +165,8 @@ impl Bank {
     /// # Ok::<(), tulonkasa::Refusal>(())
     /// ```
     pub fn sample_tile_observed(&self, tile: &Tile, lane: u32) -> Result<Observed, Refusal> {
-        let bank = &self.bytes;
         Observed::fill(tile.texels()?, |picture, trail| {
-            call!(tk_sample_tile_observed(
-                bank.as_ptr(), bank.len(); tile, lane, picture.as_mut_ptr(), picture.len(), trail.as_mut_ptr(),
-                trail.len()
-            ))
+            slices::sample_tile_observed(&self.bytes, tile, lane, picture, trail)
         })
     }
 
@@ -242,37 +179,26 @@ impl Bank {
 
     /// The lookup into a lent buffer, whose surplus stays as it is. Answers the count of reads.
     pub fn sampling_lookup_into(&self, tile: &Tile, lane: u32, picture: &mut [u8]) -> Result<u32, Refusal> {
-        let bank = &self.bytes;
-        let answer = call!(tk_sampling_lookup(bank.as_ptr(), bank.len(); tile, lane, picture.as_mut_ptr(), picture.len()));
-        Refusal::check(answer.refusal, answer.count)
+        slices::sampling_lookup(&self.bytes, tile, lane, picture)
     }
 
     /// The lookup, with the addresses that were read.
     pub fn sampling_lookup_observed(&self, tile: &Tile, lane: u32) -> Result<Observed, Refusal> {
-        let bank = &self.bytes;
         Observed::fill(LOOKUP_TEXELS, |picture, trail| {
-            call!(tk_sampling_lookup_observed(
-                bank.as_ptr(), bank.len(); tile, lane, picture.as_mut_ptr(), picture.len(), trail.as_mut_ptr(),
-                trail.len()
-            ))
+            slices::sampling_lookup_observed(&self.bytes, tile, lane, picture, trail)
         })
     }
 
     /// Whether the tile can reach an address that a load has written.
     pub fn tile_has_load(&self, tile: &Tile) -> Result<bool, Refusal> {
-        let map = &self.written.0;
-        let answer = call!(tk_tile_has_load(; tile, map.as_ptr(), map.len()));
-        Refusal::check(answer.refusal, answer.yes == 1)
+        slices::tile_has_load(tile, &self.written.0)
     }
 
     /// The palette slots whose four pairs of bytes are not all equal.
     pub fn palette_nonreplicated(&self) -> Result<LaneMap, Refusal> {
         let mut map = LaneMap::default();
-        // SAFETY: each pointer comes with its length, and the two borrows do not overlap.
-        let refusal = unsafe {
-            ffi::tk_palette_nonreplicated(self.bytes.as_ptr(), self.bytes.len(), map.0.as_mut_ptr(), map.0.len())
-        };
-        Refusal::check(refusal, map)
+        slices::palette_nonreplicated(&self.bytes, &mut map.0)?;
+        Ok(map)
     }
 
     /// The key of the picture that the tile calls for.
@@ -289,20 +215,18 @@ impl Bank {
     /// ```
     pub fn key(&self, tile: &Tile, lane: u32) -> Result<Key, Refusal> {
         let mut bytes = [0; BANK_BYTES];
-        let bank = &self.bytes;
-        let answer = call!(tk_key(bank.as_ptr(), bank.len(); tile, lane, bytes.as_mut_ptr(), bytes.len()));
-        Refusal::check(answer.refusal, Key { bytes, kept: answer.count })
+        let kept = slices::key(&self.bytes, tile, lane, &mut bytes)?;
+        Ok(Key { bytes, kept })
     }
 }
 
 impl Observed {
     /// Lends a call a picture of so many texels and a trail that is long enough, and reads the trail.
-    fn fill(texels: usize, call: impl FnOnce(&mut [u8], &mut [u8]) -> ffi::Answer) -> Result<Self, Refusal> {
+    fn fill(texels: usize, call: impl FnOnce(&mut [u8], &mut [u8]) -> Result<u32, Refusal>) -> Result<Self, Refusal> {
         let mut picture = vec![0; 4 * texels];
         let mut trail = vec![0; 2 * TEXEL_READS_MOST * texels];
-        let answer = call(&mut picture, &mut trail);
-        let trail =
-            trail.chunks_exact(2).take(answer.count as usize).map(|pair| u16::from_be_bytes([pair[0], pair[1]])).collect();
-        Refusal::check(answer.refusal, Self { picture, trail })
+        let reads = call(&mut picture, &mut trail)? as usize;
+        let trail = trail.chunks_exact(2).take(reads).map(|pair| u16::from_be_bytes([pair[0], pair[1]])).collect();
+        Ok(Self { picture, trail })
     }
 }

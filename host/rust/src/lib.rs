@@ -26,6 +26,7 @@ mod bank;
 pub mod ffi;
 mod map;
 mod refusal;
+pub mod slices;
 mod tile;
 
 pub use bank::{Bank, Key, Observed, BANK_BYTES, LOOKUP_TEXELS};

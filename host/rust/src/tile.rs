@@ -1,5 +1,5 @@
 //! The tile record, and the calls that need no bank.
-use crate::{ffi, AddressMap, Refusal};
+use crate::{slices, AddressMap, Refusal};
 
 /// A tile and its mode. The default is all zero: a tile at the bank's start, of no texels.
 ///
@@ -43,21 +43,6 @@ pub struct Sampling {
     pub height: u32,
 }
 
-/// Calls an entry of [`ffi`] with a tile's twelve numbers among its arguments.
-macro_rules! call {
-    ($entry:ident($($before:expr),*; $tile:expr $(, $after:expr)*)) => {{
-        let tile: &Tile = $tile;
-        // SAFETY: each pointer comes with its slice's length, and Rust's borrows do not overlap.
-        unsafe {
-            ffi::$entry(
-                $($before,)* tile.fmt, tile.siz, tile.palette, tile.mode, tile.cms, tile.cmt, tile.masks, tile.maskt,
-                tile.line, tile.tmem_addr, tile.width, tile.height $(, $after)*
-            )
-        }
-    }};
-}
-pub(crate) use call;
-
 impl Tile {
     /// Which picture the tile calls for.
     ///
@@ -71,9 +56,7 @@ impl Tile {
     /// # Ok::<(), tulonkasa::Refusal>(())
     /// ```
     pub fn sampling(&self) -> Result<Sampling, Refusal> {
-        let answer = call!(tk_sampling(; self));
-        let sampling = Sampling { lookup: answer.flag == 1, width: answer.width, height: answer.height };
-        Refusal::check(answer.refusal, sampling)
+        slices::sampling(self)
     }
 
     /// The addresses that the tile can reach.
@@ -87,8 +70,8 @@ impl Tile {
     /// ```
     pub fn reach(&self) -> Result<AddressMap, Refusal> {
         let mut map = AddressMap::default();
-        let refusal = call!(tk_reach(; self, map.0.as_mut_ptr(), map.0.len()));
-        Refusal::check(refusal, map)
+        slices::reach(self, &mut map.0)?;
+        Ok(map)
     }
 
     /// The texels of the tile's plain picture, once its numbers are found in range.
