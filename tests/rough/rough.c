@@ -396,7 +396,9 @@ static void check_call(bool whole) {
     }
 }
 
+#ifdef __SANITIZE_ADDRESS__
 void __sanitizer_set_death_callback(void (*callback)(void));
+#endif
 
 int main(int argc, char **argv) {
     if (argc < 3 || argc > 4) {
@@ -406,7 +408,9 @@ int main(int argc, char **argv) {
     uint64_t seconds = strtoull(argv[1], NULL, 10), calls = argc == 4 ? strtoull(argv[3], NULL, 10) : UINT64_MAX;
     state = strtoull(argv[2], NULL, 10);
     for (int i = 0; i < BUFFERS; i++) make_buffer(&buffers[i], right_length[i]);
+#ifdef __SANITIZE_ADDRESS__
     __sanitizer_set_death_callback(print_call);
+#endif
 
     uint64_t done = 0, refused[16] = {0};
     time_t began = time(NULL);
