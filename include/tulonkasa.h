@@ -96,13 +96,13 @@ typedef struct tk_tile {
 } tk_tile;
 
 /* The twelve numbers of a tile and its mode, as every call below takes them. */
-#define TK_TILE_PARAMETERS                                                                                                 \
-    uint32_t fmt, uint32_t siz, uint32_t palette, uint32_t mode, uint32_t cms, uint32_t cmt, uint32_t masks,               \
+#define TK_TILE_PARAMETERS                                                                                   \
+    uint32_t fmt, uint32_t siz, uint32_t palette, uint32_t mode, uint32_t cms, uint32_t cmt, uint32_t masks, \
         uint32_t maskt, uint32_t line, uint32_t tmem_addr, uint32_t width, uint32_t height
 
 /* The same twelve out of a `const tk_tile *`. */
-#define TK_TILE_ARGUMENTS(tile)                                                                                            \
-    (tile)->fmt, (tile)->siz, (tile)->palette, (tile)->mode, (tile)->cms, (tile)->cmt, (tile)->masks, (tile)->maskt,       \
+#define TK_TILE_ARGUMENTS(tile)                                                                                      \
+    (tile)->fmt, (tile)->siz, (tile)->palette, (tile)->mode, (tile)->cms, (tile)->cmt, (tile)->masks, (tile)->maskt, \
         (tile)->line, (tile)->tmem_addr, (tile)->width, (tile)->height
 
 /* ---- Loads ---------------------------------------------------------------------------------------------------------- */
@@ -181,8 +181,8 @@ tk_answer tk_key(const uint8_t *bank, size_t bank_length, TK_TILE_PARAMETERS, ui
 
 static inline tk_answer tk_load_block_of(uint8_t *bank, uint8_t *written, const uint8_t *source, size_t source_length,
                                          const tk_tile *tile, uint32_t image_siz, uint32_t dxt, uint32_t words) {
-    return tk_load_block(bank, TK_BANK_BYTES, written, TK_MAP_BYTES, source, source_length, tile->fmt, tile->siz, tile->line,
-                         tile->tmem_addr, image_siz, dxt, words);
+    return tk_load_block(bank, TK_BANK_BYTES, written, TK_MAP_BYTES, source, source_length, tile->fmt, tile->siz,
+                         tile->line, tile->tmem_addr, image_siz, dxt, words);
 }
 
 static inline tk_answer tk_load_tile_of(uint8_t *bank, uint8_t *written, const uint8_t *source, size_t source_length,
@@ -206,8 +206,9 @@ static inline tk_answer tk_sample_tile_of(const uint8_t *bank, const tk_tile *ti
     return tk_sample_tile(bank, TK_BANK_BYTES, TK_TILE_ARGUMENTS(tile), lane, picture, picture_length);
 }
 
-static inline tk_answer tk_sample_tile_observed_of(const uint8_t *bank, const tk_tile *tile, uint32_t lane, uint8_t *picture,
-                                                   size_t picture_length, uint8_t *trail, size_t trail_length) {
+static inline tk_answer tk_sample_tile_observed_of(const uint8_t *bank, const tk_tile *tile, uint32_t lane,
+                                                   uint8_t *picture, size_t picture_length, uint8_t *trail,
+                                                   size_t trail_length) {
     return tk_sample_tile_observed(bank, TK_BANK_BYTES, TK_TILE_ARGUMENTS(tile), lane, picture, picture_length, trail,
                                    trail_length);
 }

@@ -50,7 +50,8 @@ static void check_the_twelve(void) {
             CHECK(tk_reach_of(bad[k], map) == refusal);
             CHECK(tk_tile_has_load_of(bad[k], written).refusal == refusal);
             CHECK(tk_sample_tile_of(bank, bad[k], 0, picture, sizeof picture).refusal == refusal);
-            CHECK(tk_sample_tile_observed_of(bank, bad[k], 0, picture, sizeof picture, trail, sizeof trail).refusal == refusal);
+            CHECK(tk_sample_tile_observed_of(bank, bad[k], 0, picture, sizeof picture, trail, sizeof trail).refusal ==
+                  refusal);
             CHECK(tk_sampling_lookup_of(bank, bad[k], 0, picture, sizeof picture).refusal == refusal);
             CHECK(tk_sampling_lookup_observed_of(bank, bad[k], 0, picture, sizeof picture, trail, sizeof trail).refusal ==
                   refusal);
@@ -70,21 +71,22 @@ static void check_loads(void) {
             uint32_t refusal = past == 0 ? 0 : i < 4 ? 2 : 4;
             if (i < 7) {
                 b[i] = block_most[i] + past;
-                CHECK(tk_load_block(bank, sizeof bank, written, sizeof written, source, sizeof source, b[0], b[1], b[2], b[3],
-                                    b[4], b[5], b[6])
+                CHECK(tk_load_block(bank, sizeof bank, written, sizeof written, source, sizeof source, b[0], b[1], b[2],
+                                    b[3], b[4], b[5], b[6])
                           .refusal == refusal);
             }
             t[i] = tile_most[i] + past;
-            CHECK(tk_load_tile(bank, sizeof bank, written, sizeof written, source, sizeof source, t[0], t[1], t[2], t[3], t[4],
-                               t[5], t[6], t[7])
+            CHECK(tk_load_tile(bank, sizeof bank, written, sizeof written, source, sizeof source, t[0], t[1], t[2], t[3],
+                               t[4], t[5], t[6], t[7])
                       .refusal == refusal);
             p[i] = tlut_most[i] + past;
-            CHECK(tk_load_tlut(bank, sizeof bank, written, sizeof written, source, sizeof source, p[0], p[1], p[2], p[3], p[4],
-                               p[5], p[6], p[7])
+            CHECK(tk_load_tlut(bank, sizeof bank, written, sizeof written, source, sizeof source, p[0], p[1], p[2], p[3],
+                               p[4], p[5], p[6], p[7])
                       .refusal == refusal);
         }
     }
-    CHECK(tk_load_tlut(bank, sizeof bank, written, sizeof written, source, sizeof source, 0, 0, 0, 0, 0, 1, 0, 0).refusal == 4);
+    CHECK(tk_load_tlut(bank, sizeof bank, written, sizeof written, source, sizeof source, 0, 0, 0, 0, 0, 1, 0, 0).refusal ==
+          4);
 }
 
 /* Lengths and lane: each buffer one short, and a lane of 4. */
@@ -114,7 +116,8 @@ static void check_lengths(void) {
     CHECK(tk_sampling_lookup(bank, 4095, TK_TILE_ARGUMENTS(t), 0, picture, sizeof picture).refusal == 1);
     CHECK(tk_sampling_lookup_of(bank, t, 4, picture, sizeof picture).refusal == 3);
     CHECK(tk_sampling_lookup_of(bank, t, 0, picture, sizeof picture - 1).refusal == 6);
-    CHECK(tk_sampling_lookup_observed(bank, 4095, TK_TILE_ARGUMENTS(t), 0, picture, sizeof picture, trail, 32768).refusal == 1);
+    CHECK(tk_sampling_lookup_observed(bank, 4095, TK_TILE_ARGUMENTS(t), 0, picture, sizeof picture, trail, 32768).refusal ==
+          1);
     CHECK(tk_sampling_lookup_observed_of(bank, t, 4, picture, sizeof picture, trail, 32768).refusal == 3);
     CHECK(tk_sampling_lookup_observed_of(bank, t, 0, picture, sizeof picture - 1, trail, 32768).refusal == 6);
     CHECK(tk_sampling_lookup_observed_of(bank, t, 0, picture, sizeof picture, trail, 32767).refusal == 7);
@@ -133,7 +136,8 @@ static void check_answers(void) {
     CHECK(sampling.refusal == 0 && sampling.flag == 1 && sampling.width == 4096 && sampling.height == 4);
 
     /* Row 0 reads 16, 17, 18; row 1 reads 24 to 26 with bit 4 the other way round: 28, 29, 30. */
-    static const uint8_t texels[] = {16, 16, 16, 16, 17, 17, 17, 17, 18, 18, 18, 18, 28, 28, 28, 28, 29, 29, 29, 29, 30, 30, 30, 30};
+    static const uint8_t texels[] = {16, 16, 16, 16, 17, 17, 17, 17, 18, 18, 18, 18,
+                                     28, 28, 28, 28, 29, 29, 29, 29, 30, 30, 30, 30};
     static const uint8_t reads[] = {0, 16, 0, 17, 0, 18, 0, 28, 0, 29, 0, 30};
     tk_answer answer = tk_sample_tile_of(bank, &tile, 0, picture, sizeof picture);
     CHECK(answer.refusal == 0 && answer.count == 6 && memcmp(picture, texels, sizeof texels) == 0);
@@ -169,7 +173,8 @@ static void check_answers(void) {
     answer = tk_load_tile_of(bank, written, source, sizeof source, &load, 2, 2, 1, 16);
     CHECK(answer.refusal == 0 && answer.count == 16 && bank[16] == 100 && bank[28] == 116 && written[3] == 255);
     answer = tk_load_tlut_of(bank, written, source, sizeof source, &load, 0, 2, 2, 16);
-    CHECK(answer.refusal == 0 && answer.count == 32 && bank[16] == 100 && bank[24] == 102 && bank[48] == 116 && bank[56] == 118);
+    CHECK(answer.refusal == 0 && answer.count == 32 && bank[16] == 100 && bank[24] == 102 && bank[48] == 116 &&
+          bank[56] == 118);
 }
 
 /* An empty buffer may be null. */

@@ -47,17 +47,13 @@ typedef struct buffer {
 enum { BANK, WRITTEN, SOURCE, PICTURE, TRAIL, MAP, LANES, KEY, BUFFERS };
 
 static buffer buffers[BUFFERS];
-static const char *const buffer_names[BUFFERS] = {"bank", "written map", "source", "picture", "trail", "reach map", "lane map", "key"};
+static const char *const buffer_names[BUFFERS] = {"bank",  "written map", "source",   "picture",
+                                                  "trail", "reach map",   "lane map", "key"};
 
 /* The right lengths of bank, written map, reach map, lane map and key; the most for the others. */
-static const size_t right_length[BUFFERS] = {TK_BANK_BYTES,
-                                             TK_MAP_BYTES,
-                                             TK_SOURCE_MOST,
-                                             4 * TK_SIDE_MOST * TK_SIDE_MOST,
-                                             8 * TK_SIDE_MOST * TK_SIDE_MOST,
-                                             TK_MAP_BYTES,
-                                             TK_LANE_MAP_BYTES,
-                                             TK_BANK_BYTES};
+static const size_t right_length[BUFFERS] = {
+    TK_BANK_BYTES, TK_MAP_BYTES,      TK_SOURCE_MOST, 4 * TK_SIDE_MOST *TK_SIDE_MOST, 8 * TK_SIDE_MOST *TK_SIDE_MOST,
+    TK_MAP_BYTES,  TK_LANE_MAP_BYTES, TK_BANK_BYTES};
 
 static void make_buffer(buffer *b, size_t least) {
     size_t page = (size_t)sysconf(_SC_PAGESIZE);
@@ -85,17 +81,43 @@ static void lend(buffer *b, size_t length) {
 /* ---- A call --------------------------------------------------------------------------------------------------------- */
 
 enum {
-    LOAD_BLOCK, LOAD_TILE, LOAD_TLUT, SAMPLING, SAMPLE_TILE, SAMPLE_TILE_OBSERVED, SAMPLING_LOOKUP,
-    SAMPLING_LOOKUP_OBSERVED, REACH, TILE_HAS_LOAD, PALETTE_NONREPLICATED, CUT_KEY, ENTRIES
+    LOAD_BLOCK,
+    LOAD_TILE,
+    LOAD_TLUT,
+    SAMPLING,
+    SAMPLE_TILE,
+    SAMPLE_TILE_OBSERVED,
+    SAMPLING_LOOKUP,
+    SAMPLING_LOOKUP_OBSERVED,
+    REACH,
+    TILE_HAS_LOAD,
+    PALETTE_NONREPLICATED,
+    CUT_KEY,
+    ENTRIES
 };
 
-static const char *const entry_names[ENTRIES] = {
-    "tk_load_block", "tk_load_tile", "tk_load_tlut", "tk_sampling", "tk_sample_tile", "tk_sample_tile_observed",
-    "tk_sampling_lookup", "tk_sampling_lookup_observed", "tk_reach", "tk_tile_has_load", "tk_palette_nonreplicated", "tk_key"};
+static const char *const entry_names[ENTRIES] = {"tk_load_block",
+                                                 "tk_load_tile",
+                                                 "tk_load_tlut",
+                                                 "tk_sampling",
+                                                 "tk_sample_tile",
+                                                 "tk_sample_tile_observed",
+                                                 "tk_sampling_lookup",
+                                                 "tk_sampling_lookup_observed",
+                                                 "tk_reach",
+                                                 "tk_tile_has_load",
+                                                 "tk_palette_nonreplicated",
+                                                 "tk_key"};
 
 /* What an entry takes, and so what it can refuse. */
 enum {
-    TAKES_LOAD_FIELDS = 1, TAKES_TILE = 2, TAKES_LANE = 4, TAKES_LOAD = 8, TAKES_PAIR = 16, TAKES_PICTURE = 32, TAKES_TRAIL = 64
+    TAKES_LOAD_FIELDS = 1,
+    TAKES_TILE = 2,
+    TAKES_LANE = 4,
+    TAKES_LOAD = 8,
+    TAKES_PAIR = 16,
+    TAKES_PICTURE = 32,
+    TAKES_TRAIL = 64
 };
 
 static const struct {
@@ -125,27 +147,28 @@ static struct {
 } now;
 
 /* What was answered. Entries with fewer numbers leave the rest 0. */
-static struct {
-    uint32_t refusal, numbers[3];
-} answer;
+static struct { uint32_t refusal, numbers[3]; } answer;
 
 static void print_call(void) {
     const tk_tile *t = &now.tile;
-    fprintf(stderr, "  %s: fmt %u siz %u palette %u mode %u cms %u cmt %u masks %u maskt %u line %u tmem_addr %u width %u height %u\n",
-            entry_names[now.entry], t->fmt, t->siz, t->palette, t->mode, t->cms, t->cmt, t->masks, t->maskt, t->line,
-            t->tmem_addr, t->width, t->height);
+    fprintf(
+        stderr,
+        "  %s: fmt %u siz %u palette %u mode %u cms %u cmt %u masks %u maskt %u line %u tmem_addr %u width %u height %u\n",
+        entry_names[now.entry], t->fmt, t->siz, t->palette, t->mode, t->cms, t->cmt, t->masks, t->maskt, t->line,
+        t->tmem_addr, t->width, t->height);
     fprintf(stderr, "  lane %u image_siz %u numbers %u %u %u\n", now.lane, now.image_siz, now.numbers[0], now.numbers[1],
             now.numbers[2]);
     for (int i = 0; i < BUFFERS; i++) {
         if ((entries[now.entry].read | entries[now.entry].written) >> i & 1) {
-            fprintf(stderr, "  %s: %zu bytes%s\n", buffer_names[i], buffers[i].length, buffers[i].lent == NULL ? ", null" : "");
+            fprintf(stderr, "  %s: %zu bytes%s\n", buffer_names[i], buffers[i].length,
+                    buffers[i].lent == NULL ? ", null" : "");
         }
     }
 }
 
 static void fail(const char *what) {
-    fprintf(stderr, "rough: %s (refusal %u, numbers %u %u %u)\n", what, answer.refusal, answer.numbers[0], answer.numbers[1],
-            answer.numbers[2]);
+    fprintf(stderr, "rough: %s (refusal %u, numbers %u %u %u)\n", what, answer.refusal, answer.numbers[0],
+            answer.numbers[1], answer.numbers[2]);
     print_call();
     _exit(1);
 }
@@ -248,9 +271,10 @@ static void choose_load(void) {
 /* Puts one number outside its range, or anywhere. */
 static void break_one(void) {
     static const uint32_t most[17] = {7, 3, 15, 3, 3, 3, 15, 15, 511, 511, 1024, 1024, 3, 3, 4095, 2048, 65535};
-    uint32_t *numbers[17] = {&now.tile.fmt, &now.tile.siz, &now.tile.palette, &now.tile.mode, &now.tile.cms, &now.tile.cmt,
-                             &now.tile.masks, &now.tile.maskt, &now.tile.line, &now.tile.tmem_addr, &now.tile.width,
-                             &now.tile.height, &now.lane, &now.image_siz, &now.numbers[0], &now.numbers[1], &now.numbers[2]};
+    uint32_t *numbers[17] = {&now.tile.fmt,   &now.tile.siz,    &now.tile.palette, &now.tile.mode, &now.tile.cms,
+                             &now.tile.cmt,   &now.tile.masks,  &now.tile.maskt,   &now.tile.line, &now.tile.tmem_addr,
+                             &now.tile.width, &now.tile.height, &now.lane,         &now.image_siz, &now.numbers[0],
+                             &now.numbers[1], &now.numbers[2]};
     uint32_t i = up_to(16);
     switch (up_to(3)) {
         case 0: *numbers[i] = most[i] + 1; break;
@@ -272,7 +296,7 @@ static void break_all(void) {
 /* Lends every buffer that the entry takes. Picture and trail get what the tile needs as far as there is room, or more. */
 static void choose_lengths(void) {
     unsigned lent = entries[now.entry].read | entries[now.entry].written;
-    uint64_t count = texels() < TK_SIDE_MOST * TK_SIDE_MOST ? texels() : 16;
+    uint64_t count = texels() <= TK_SIDE_MOST * TK_SIDE_MOST ? texels() : 16;
     uint32_t each = now.tile.fmt < 8 && now.tile.siz < 4 ? reads_each() : 1;
     for (int i = 0; i < BUFFERS; i++) {
         if (!(lent >> i & 1)) continue;
@@ -336,7 +360,9 @@ static void make_call(void) {
         case SAMPLE_TILE_OBSERVED:
             set_answer(tk_sample_tile_observed(LENT(BANK), TK_TILE_ARGUMENTS(t), now.lane, LENT(PICTURE), LENT(TRAIL)));
             break;
-        case SAMPLING_LOOKUP: set_answer(tk_sampling_lookup(LENT(BANK), TK_TILE_ARGUMENTS(t), now.lane, LENT(PICTURE))); break;
+        case SAMPLING_LOOKUP:
+            set_answer(tk_sampling_lookup(LENT(BANK), TK_TILE_ARGUMENTS(t), now.lane, LENT(PICTURE)));
+            break;
         case SAMPLING_LOOKUP_OBSERVED:
             set_answer(tk_sampling_lookup_observed(LENT(BANK), TK_TILE_ARGUMENTS(t), now.lane, LENT(PICTURE), LENT(TRAIL)));
             break;

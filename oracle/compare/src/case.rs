@@ -92,6 +92,11 @@ impl Case {
         numbers.extend(self.numbers.iter_mut());
         numbers
     }
+
+    /// How large its numbers are, to print the smallest of several.
+    pub fn size(&self) -> u64 {
+        self.clone().numbers_mut().into_iter().map(|number| u64::from(*number)).sum()
+    }
 }
 
 /// The tile as the original has it. Its numbers are in range.

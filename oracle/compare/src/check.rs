@@ -97,22 +97,14 @@ impl Workspace {
         same("the written map", &before, &written)?;
         same("the source", &untouched, source)?;
         self.loads += 1;
-        if self.loads % OWN_MAP_EVERY == 0 {
+        if self.loads.is_multiple_of(OWN_MAP_EVERY) {
             same("the original's own map and the addresses that it stored to", &memory.written(), &marks)?;
         }
         Ok(Amount { stores: stores.into(), ..Amount::default() })
     }
 
     fn picture(&mut self, case: &Case, which: Picture, observed: bool) -> Result<Amount, String> {
-        let (tile, mode, lane) = (descriptor(&case.tile), case.tile.mode as u8, case.lane as usize);
-        self.expected_trail.clear();
-        let expected = if observed {
-            calls::picture_observed(&self.bank, &tile, mode, lane, which, &mut self.expected_trail)
-                .map(|picture| (picture, (self.expected_trail.len() / 2) as u32))
-        } else {
-            calls::picture_counted(&self.bank, &tile, mode, lane, which)
-        };
-
+        let expected = self.original_picture(case, which, observed);
         let texels = match which {
             Picture::Plain => (case.tile.width * case.tile.height) as usize,
             Picture::Lookup => LOOKUP_TEXELS,
@@ -128,18 +120,7 @@ impl Workspace {
 
         self.picture[..picture_length + FENCE].fill(BEFORE);
         self.trail[..trail_length + FENCE].fill(BEFORE);
-        let picture = &mut self.picture[..picture_length];
-        let trail = &mut self.trail[..trail_length];
-        let answer = match (which, observed) {
-            (Picture::Plain, false) => slices::sample_tile(&self.bank[..], &case.tile, case.lane, picture),
-            (Picture::Plain, true) => slices::sample_tile_observed(&self.bank[..], &case.tile, case.lane, picture, trail),
-            (Picture::Lookup, false) => slices::sampling_lookup(&self.bank[..], &case.tile, case.lane, picture),
-            (Picture::Lookup, true) => {
-                slices::sampling_lookup_observed(&self.bank[..], &case.tile, case.lane, picture, trail)
-            }
-        };
-        same_answer(answered, answer)?;
-        let reads = answered.unwrap_or(0);
+        same_answer(answered, self.archive_picture(case, which, observed, picture_length, trail_length))?;
         let (made, told) = match (&expected, answered) {
             (Some((picture, _)), Ok(_)) => (&picture[..], &self.expected_trail[..]),
             _ => (&[][..], &[][..]),
@@ -147,7 +128,38 @@ impl Workspace {
         same_front("the picture", made, &self.picture[..picture_length + FENCE])?;
         same_front("the trail", told, &self.trail[..trail_length + FENCE])?;
         let refused = answered.is_err().into();
-        Ok(Amount { texels: made.len() as u64 / 4, reads: reads.into(), refused, ..Amount::default() })
+        let reads = answered.unwrap_or(0).into();
+        Ok(Amount { texels: made.len() as u64 / 4, reads, refused, ..Amount::default() })
+    }
+
+    /// The original's picture and its count of reads. Its trail, if asked for, is left in `expected_trail`.
+    fn original_picture(&mut self, case: &Case, which: Picture, observed: bool) -> Option<(Vec<u8>, u32)> {
+        let (tile, mode, lane) = (descriptor(&case.tile), case.tile.mode as u8, case.lane as usize);
+        let trail = &mut self.expected_trail;
+        trail.clear();
+        if !observed {
+            return calls::picture_counted(&self.bank, &tile, mode, lane, which);
+        }
+        let picture = calls::picture_observed(&self.bank, &tile, mode, lane, which, trail)?;
+        Some((picture, (trail.len() / 2) as u32))
+    }
+
+    fn archive_picture(
+        &mut self,
+        case: &Case,
+        which: Picture,
+        observed: bool,
+        picture_length: usize,
+        trail_length: usize,
+    ) -> Result<u32, Refusal> {
+        let (bank, tile, lane) = (&self.bank[..], &case.tile, case.lane);
+        let (picture, trail) = (&mut self.picture[..picture_length], &mut self.trail[..trail_length]);
+        match (which, observed) {
+            (Picture::Plain, false) => slices::sample_tile(bank, tile, lane, picture),
+            (Picture::Plain, true) => slices::sample_tile_observed(bank, tile, lane, picture, trail),
+            (Picture::Lookup, false) => slices::sampling_lookup(bank, tile, lane, picture),
+            (Picture::Lookup, true) => slices::sampling_lookup_observed(bank, tile, lane, picture, trail),
+        }
     }
 
     fn reach(&self, case: &Case) -> Result<Amount, String> {

@@ -63,10 +63,8 @@ fn main() -> ExitCode {
     };
     let began = Instant::now();
     let works = run(began + Duration::from_secs(seconds), seed);
-    let differences = works.iter().filter_map(|work| work.difference.clone());
-    if let Some((case, why)) =
-        differences.min_by_key(|(case, _)| case.clone().numbers_mut().iter().map(|n| **n as u64).sum::<u64>())
-    {
+    let differences = works.iter().filter_map(|work| work.difference.as_ref());
+    if let Some((case, why)) = differences.min_by_key(|(case, _)| case.size()) {
         println!("DIFFERENCE: {why}\n{case}");
         return ExitCode::FAILURE;
     }
@@ -140,7 +138,7 @@ fn grouped(number: u64) -> String {
     let digits = number.to_string();
     let mut text = String::new();
     for (i, digit) in digits.chars().enumerate() {
-        if i > 0 && (digits.len() - i) % 3 == 0 {
+        if i > 0 && (digits.len() - i).is_multiple_of(3) {
             text.push(',');
         }
         text.push(digit);

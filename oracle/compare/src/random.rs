@@ -61,7 +61,7 @@ impl Random {
             line: self.near(511),
             tmem_addr: self.near(511),
             width,
-            height: if width == 0 { height } else { height.min(texels / width) },
+            height: texels.checked_div(width).map_or(height, |most| height.min(most)),
         }
     }
 

@@ -9,11 +9,11 @@ extern crate stand_ins as bytemuck;
 extern crate stand_ins as serde;
 
 pub mod calls;
-mod stand_ins_of_the_crate;
+mod neighbours;
 
 pub use diag::{Diagnostic, MemoryAccess};
 pub use hle::rdp::TileDescriptor;
-pub(crate) use stand_ins_of_the_crate::{hardware, inspect, profiling, scene};
+pub(crate) use neighbours::{hardware, inspect, profiling, scene};
 
 pub(crate) use hardware::MemoryError;
 
@@ -21,7 +21,7 @@ include!(concat!(env!("OUT_DIR"), "/root.rs"));
 
 /// The part of the original that is compared, among stand-ins for its neighbours.
 pub mod hle {
-    pub(crate) use crate::stand_ins_of_the_crate::{consts, framebuffer_load, interp, mem, rsp};
+    pub(crate) use crate::neighbours::{consts, framebuffer_load, interp, mem, rsp};
 
     include!(concat!(env!("OUT_DIR"), "/hle.rs"));
 }

@@ -147,7 +147,7 @@ impl Input {
 
     /// Of a picture: with its trail.
     fn observed(&self) -> bool {
-        self.kind % 2 == 0
+        self.kind.is_multiple_of(2)
     }
 
     /// Sets the lengths of picture and trail: what is needed, and more.
@@ -221,7 +221,7 @@ impl List {
     /// Adds a case with a seed of its own and a poke. One bank in sixteen is empty, and two written maps in three.
     fn push(&mut self, mut input: Input) {
         let count = self.count() as u32;
-        let empty = if input.kind == KIND_HAS_LOAD { count % 3 != 0 } else { count % 16 == 0 };
+        let empty = if input.kind == KIND_HAS_LOAD { !count.is_multiple_of(3) } else { count.is_multiple_of(16) };
         input.seed = if empty { 0 } else { 1 + count * 1_000_003 };
         if !matches!(input.kind, KIND_SAMPLING | KIND_REACH) {
             let places = if input.kind == KIND_HAS_LOAD { 512 } else { 4096 };
