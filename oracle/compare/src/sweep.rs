@@ -41,6 +41,7 @@ pub fn cases() -> Vec<Case> {
     tiles(&mut cases);
     buffers(&mut cases);
     loads(&mut cases);
+    loads_in_reach(&mut cases);
     banks(&mut cases);
     cases
 }
@@ -122,6 +123,21 @@ fn loads(cases: &mut Vec<Case>) {
         cases.push(largest(Call::LoadBlock, [4095, 2048, 0]));
         cases.push(largest(Call::LoadTile, [1024, 512, 64]));
         cases.push(largest(Call::LoadTlut, [1024, 1024, 31]));
+    }
+}
+
+/// One word loaded before, at the start of, inside, at the end of and behind what a tile reaches.
+fn loads_in_reach(cases: &mut Vec<Case>) {
+    for pair in 0..32 {
+        for mode in 0..4 {
+            for (tmem_addr, height) in [(100, 1), (100, 3), (511, 2)] {
+                let (width, line) = (9, 2);
+                let tile = Tile { fmt: pair / 4, siz: pair % 4, mode, tmem_addr, width, height, line, ..Tile::default() };
+                for word in (0..9).map(|ahead| (tmem_addr + 511 + ahead) % 512) {
+                    cases.push(Case { image_siz: 2, numbers: [word, 1, 1], ..Case::new(Call::TileHasLoad, tile) });
+                }
+            }
+        }
     }
 }
 
