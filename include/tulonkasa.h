@@ -122,8 +122,9 @@ tk_answer tk_load_tile(uint8_t *bank, size_t bank_length, uint8_t *written, size
                        size_t source_length, uint32_t fmt, uint32_t siz, uint32_t line, uint32_t tmem_addr,
                        uint32_t image_siz, uint32_t rows, uint32_t words, uint32_t stride);
 
-/* A palette: each entry of two bytes fills a slot of eight. count: 0..1,024 entries a row. rows: 1..1,024.
- * stride: 0..65,535 source bytes from row to row. */
+/* A palette: an entry of two bytes is stored four times over, so that it fills a slot of eight. count: 0..1,024 entries a
+ * row. rows: 1..1,024. stride: 0..65,535 source bytes from row to row. One row of an image of size 1 or 3 is taken eight
+ * source bytes at a time, each for eight or two entries, and only the first entry of each is stored. */
 tk_answer tk_load_tlut(uint8_t *bank, size_t bank_length, uint8_t *written, size_t written_length, const uint8_t *source,
                        size_t source_length, uint32_t fmt, uint32_t siz, uint32_t line, uint32_t tmem_addr,
                        uint32_t image_siz, uint32_t count, uint32_t rows, uint32_t stride);
