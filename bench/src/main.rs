@@ -1,0 +1,310 @@
+//! The original Rust and the archive side by side, in one process and on the same inputs, as Markdown tables.
+//!
+//!     bench ROUNDS
+mod timing;
+
+use original::calls::{self, Load, Memory, Picture};
+use original::TileDescriptor;
+use std::hint::black_box;
+use std::process::ExitCode;
+use timing::{race, Pair};
+use tulonkasa::{slices, Tile, LOOKUP_TEXELS};
+
+/// The goals for the ratios of archive to original.
+const GOAL: f64 = 0.5;
+const GOAL_PICTURES_AND_LOADS: f64 = 0.25;
+
+/// Pairs of format and size that modes 0 and 1 accept.
+const DIRECT: [(u32, u32); 11] = [(0, 2), (0, 3), (2, 0), (2, 1), (2, 2), (2, 3), (3, 0), (3, 1), (3, 2), (4, 0), (4, 1)];
+
+struct Bench {
+    rounds: u32,
+    bank: [u8; 4096],
+    picture: Vec<u8>,
+    trail: Vec<u8>,
+    above: Vec<String>,
+}
+
+fn main() -> ExitCode {
+    let Some(Ok(rounds)) = std::env::args().nth(1).map(|rounds| rounds.parse()) else {
+        eprintln!("usage: bench ROUNDS");
+        return ExitCode::from(2);
+    };
+    let mut bench = Bench {
+        rounds,
+        bank: bytes(4096).try_into().expect("4,096 bytes"),
+        picture: vec![0; 4 * LOOKUP_TEXELS],
+        trail: vec![0; 8 * LOOKUP_TEXELS],
+        above: Vec::new(),
+    };
+    bench.pictures();
+    bench.lookups();
+    bench.loads();
+    bench.others();
+    bench.conclude();
+    ExitCode::SUCCESS
+}
+
+/// Bytes without a pattern.
+fn bytes(count: usize) -> Vec<u8> {
+    let mut n = 1u32;
+    let next = || {
+        n = n.wrapping_mul(1_664_525).wrapping_add(1_013_904_223);
+        (n >> 24) as u8
+    };
+    std::iter::repeat_with(next).take(count).collect()
+}
+
+fn descriptor(tile: &Tile) -> TileDescriptor {
+    TileDescriptor {
+        fmt: tile.fmt as u8,
+        siz: tile.siz as u8,
+        palette: tile.palette as u8,
+        cms: tile.cms as u8,
+        cmt: tile.cmt as u8,
+        masks: tile.masks as u8,
+        maskt: tile.maskt as u8,
+        line: tile.line as u16,
+        tmem_addr: tile.tmem_addr as u16,
+        width: tile.width as u16,
+        height: tile.height as u16,
+        ..TileDescriptor::default()
+    }
+}
+
+/// A tile of 64 by 64 texels, rows one behind the other.
+fn square(fmt: u32, siz: u32, mode: u32) -> Tile {
+    Tile { fmt, siz, mode, palette: 3, line: 4 << siz.min(2), width: 64, height: 64, ..Tile::default() }
+}
+
+/// Every pair that a mode accepts.
+fn accepted(mode: u32) -> Vec<(u32, u32)> {
+    if mode < 2 {
+        DIRECT.to_vec()
+    } else {
+        (0..32).map(|pair| (pair / 4, pair % 4)).collect()
+    }
+}
+
+/// Keeps the compiler from leaving out what makes a value.
+fn used<T>(value: T) {
+    black_box(value);
+}
+
+fn cells(pair: Pair) -> String {
+    format!("{:.0} | {:.0} | {:.2}", pair.original, pair.archive, pair.ratio())
+}
+
+impl Bench {
+    /// Notes a ratio above its goal.
+    fn judge(&mut self, name: String, pair: Pair, goal: f64) -> String {
+        if pair.ratio() > goal {
+            self.above.push(format!("{name}: {:.2}, goal {goal}", pair.ratio()));
+        }
+        cells(pair)
+    }
+
+    fn pictures(&mut self) {
+        println!("Pictures of 64 by 64 texels, nanoseconds a picture.\n");
+        self.picture_table(
+            (0..4).flat_map(|mode| accepted(mode).into_iter().map(move |pair| (mode, pair))),
+            Picture::Plain,
+        );
+    }
+
+    fn lookups(&mut self) {
+        println!("\nLookups of 16,384 texels, nanoseconds a lookup.\n");
+        let direct = DIRECT.iter().map(|&pair| (0, pair));
+        let paletted = [2, 3].into_iter().flat_map(|mode| [(2, 0), (2, 1)].map(|pair| (mode, pair)));
+        self.picture_table(direct.chain(paletted), Picture::Lookup);
+    }
+
+    fn picture_table(&mut self, cases: impl Iterator<Item = (u32, (u32, u32))>, which: Picture) {
+        println!("| mode | pair | Rust | archive | ratio | Rust, trail | archive, trail | ratio |");
+        println!("|---|---|---|---|---|---|---|---|");
+        for (mode, (fmt, siz)) in cases {
+            let tile = square(fmt, siz, mode);
+            let name = format!("{which:?} picture, mode {mode}, ({fmt},{siz})");
+            let alone = self.race_picture(&tile, which);
+            let alone = self.judge(name.clone(), alone, GOAL_PICTURES_AND_LOADS);
+            let observed = self.race_observed(&tile, which);
+            let observed = self.judge(name + " with trail", observed, GOAL_PICTURES_AND_LOADS);
+            println!("| {mode} | ({fmt},{siz}) | {alone} | {observed} |");
+        }
+    }
+
+    fn race_picture(&mut self, tile: &Tile, which: Picture) -> Pair {
+        let Self { rounds, bank, picture, .. } = self;
+        let (old, mode) = (descriptor(tile), tile.mode as u8);
+        race(
+            *rounds,
+            || used(calls::picture(black_box(bank), black_box(&old), mode, 1, which)),
+            || {
+                let picture = black_box(&mut picture[..]);
+                black_box(match which {
+                    Picture::Plain => slices::sample_tile(black_box(bank), black_box(tile), 1, picture),
+                    Picture::Lookup => slices::sampling_lookup(black_box(bank), black_box(tile), 1, picture),
+                })
+                .expect("accepted");
+            },
+        )
+    }
+
+    fn race_observed(&mut self, tile: &Tile, which: Picture) -> Pair {
+        let Self { rounds, bank, picture, trail, .. } = self;
+        let (old, mode) = (descriptor(tile), tile.mode as u8);
+        let mut old_trail = Vec::with_capacity(trail.len());
+        race(
+            *rounds,
+            || {
+                old_trail.clear();
+                let trail = black_box(&mut old_trail);
+                used(calls::picture_observed(black_box(bank), black_box(&old), mode, 1, which, trail));
+            },
+            || {
+                let (picture, trail) = (black_box(&mut picture[..]), black_box(&mut trail[..]));
+                black_box(match which {
+                    Picture::Plain => slices::sample_tile_observed(black_box(bank), black_box(tile), 1, picture, trail),
+                    Picture::Lookup => {
+                        slices::sampling_lookup_observed(black_box(bank), black_box(tile), 1, picture, trail)
+                    }
+                })
+                .expect("accepted");
+            },
+        )
+    }
+
+    fn loads(&mut self) {
+        println!("\nLoads, nanoseconds a load.\n");
+        println!("| load | pair | image size | Rust | archive | ratio |");
+        println!("|---|---|---|---|---|---|");
+        let block = Load::Block { dxt: 256, words: 2048 };
+        let tile = Load::Tile { rows: 64, words: 16, stride: 128 };
+        let tlut = Load::Tlut { count: 256, rows: 1, stride: 512 };
+        for (name, load) in [("block of 2,048 words", block), ("tile of 64 rows by 16 words", tile)] {
+            for (fmt, siz, image_siz) in [(0, 2, 2), (0, 3, 3), (1, 2, 2), (4, 1, 1), (4, 0, 0)] {
+                self.load_row(name, load, fmt, siz, image_siz);
+            }
+        }
+        for image_siz in [2, 1, 0] {
+            self.load_row("TLUT of 256", tlut, 0, 2, image_siz);
+        }
+    }
+
+    fn load_row(&mut self, name: &str, load: Load, fmt: u32, siz: u32, image_siz: u32) {
+        let tile = Tile { fmt, siz, line: 16, ..Tile::default() };
+        let old = descriptor(&tile);
+        let source = bytes(16384);
+        let mut memory = Memory::new(&self.bank);
+        let (mut bank, mut written) = (self.bank, [0; 512]);
+        let number = |number: usize| number as u32;
+        let pair = race(
+            self.rounds,
+            || black_box(&mut memory).load(black_box(&source), black_box(&old), image_siz as u8, load),
+            || {
+                let (bank, written, source, tile) =
+                    (black_box(&mut bank), black_box(&mut written), black_box(&source), black_box(&tile));
+                black_box(match load {
+                    Load::Block { dxt, words } => {
+                        slices::load_block(bank, written, source, tile, image_siz, dxt, number(words))
+                    }
+                    Load::Tile { rows, words, stride } => {
+                        let (rows, words, stride) = (number(rows), number(words), number(stride));
+                        slices::load_tile(bank, written, source, tile, image_siz, rows, words, stride)
+                    }
+                    Load::Tlut { count, rows, stride } => {
+                        let (count, rows, stride) = (number(count), number(rows), number(stride));
+                        slices::load_tlut(bank, written, source, tile, image_siz, count, rows, stride)
+                    }
+                })
+                .expect("in range");
+            },
+        );
+        let cells = self.judge(format!("{name}, ({fmt},{siz}), image size {image_siz}"), pair, GOAL_PICTURES_AND_LOADS);
+        println!("| {name} | ({fmt},{siz}) | {image_siz} | {cells} |");
+    }
+
+    fn others(&mut self) {
+        println!("\nThe other calls, nanoseconds a call.\n");
+        println!("| call | Rust | archive | ratio |");
+        println!("|---|---|---|---|");
+        self.lanes();
+        for (name, tile) in [
+            ("16-bit tile of 64 by 64", square(0, 2, 0)),
+            ("8-bit tile of 64 by 64", square(4, 1, 0)),
+            ("palette tile of 64 by 64", square(2, 1, 2)),
+            ("repeating tile", Tile { masks: 10, ..square(0, 2, 0) }),
+        ] {
+            self.reach_and_has_load(name, &tile);
+        }
+        for (name, tile) in [
+            ("16-bit tile of 64 by 64", square(0, 2, 0)),
+            ("8-bit tile of 64 by 64", square(4, 1, 0)),
+            ("32-bit tile of 64 by 64", square(0, 3, 0)),
+            ("palette tile of 64 by 64", square(2, 1, 2)),
+            ("lookup, palette", square(1, 1, 2)),
+        ] {
+            self.key(name, &tile);
+        }
+    }
+
+    fn row(&mut self, name: String, pair: Pair) {
+        let cells = self.judge(name.clone(), pair, GOAL);
+        println!("| {name} | {cells} |");
+    }
+
+    fn lanes(&mut self) {
+        let even = [7; 4096];
+        for (name, bank) in [("lane check, no slot uneven", even), ("lane check, all uneven", self.bank)] {
+            let mut map = [0; 32];
+            let pair = race(
+                self.rounds,
+                || used(calls::palette_nonreplicated(black_box(&bank))),
+                || slices::palette_nonreplicated(black_box(&bank), black_box(&mut map)).expect("in range"),
+            );
+            self.row(name.to_string(), pair);
+        }
+    }
+
+    /// The original has no call that lists a reach. Its walk with a test at each address, which is has-load where nothing is
+    /// written, stands for it.
+    fn reach_and_has_load(&mut self, name: &str, tile: &Tile) {
+        let (old, mode) = (descriptor(tile), tile.mode as u8);
+        let memory = Memory::new(&[0; 4096]);
+        let mut map = [0; 512];
+        let walk = || used(black_box(&memory).tile_has_load(black_box(&old), mode));
+        let pair = race(self.rounds, walk, || {
+            slices::reach(black_box(tile), black_box(&mut map)).expect("in range");
+        });
+        self.row(format!("reach, {name}"), pair);
+        let written = [0; 512];
+        let pair = race(self.rounds, walk, || {
+            black_box(slices::tile_has_load(black_box(tile), black_box(&written))).expect("in range");
+        });
+        self.row(format!("has-load, nothing written, {name}"), pair);
+    }
+
+    fn key(&mut self, name: &str, tile: &Tile) {
+        let (old, mode, bank) = (descriptor(tile), tile.mode as u8, self.bank);
+        let mut key = [0; 4096];
+        let pair = race(
+            self.rounds,
+            || used(calls::key(black_box(&bank), black_box(&old), mode, 1)),
+            || {
+                black_box(slices::key(black_box(&bank), black_box(tile), 1, black_box(&mut key))).expect("accepted");
+            },
+        );
+        self.row(format!("key, {name}"), pair);
+    }
+
+    fn conclude(&self) {
+        println!(
+            "\nGoals: {GOAL_PICTURES_AND_LOADS} for pictures and loads, {GOAL} for the others. Above them: {}.",
+            self.above.len()
+        );
+        if !self.above.is_empty() {
+            println!();
+            self.above.iter().for_each(|line| println!("- {line}"));
+        }
+    }
+}

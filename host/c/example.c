@@ -1,0 +1,54 @@
+/* An example: load a block, make a picture of it and the picture's key, and print the bytes that the key keeps. */
+
+#include <inttypes.h>
+#include <stdio.h>
+
+#include "tulonkasa.h"
+
+/* Says what was refused, and gives back whether anything was. */
+static int refused(const char *what, uint32_t refusal) {
+    if (refusal != TK_DONE) fprintf(stderr, "%s: refusal %" PRIu32 "\n", what, refusal);
+    return refusal != TK_DONE;
+}
+
+int main(void) {
+    static uint8_t bank[TK_BANK_BYTES], written[TK_MAP_BYTES], key[TK_BANK_BYTES], picture[4 * 4 * 2];
+
+    /* Two rows of four texels of 16 bits: red, green, magenta and white, then the same backwards. */
+    static const uint8_t source[] = {0xf8, 0x01, 0x07, 0xc1, 0xf8, 0x3f, 0xff, 0xff,
+                                     0xff, 0xff, 0xf8, 0x3f, 0x07, 0xc1, 0xf8, 0x01};
+
+    tk_tile tile = {0};
+    tile.siz = 2;  /* fmt 0 and siz 2: red, green, blue of five bits each, and alpha of one */
+    tile.line = 1; /* a row is one word of eight bytes */
+    tile.width = 4;
+    tile.height = 2;
+
+    tk_tile load = tile;
+    load.line = 0; /* a block load steps through memory on its own */
+
+    /* Two words; a dxt of 2,048 begins a new row at each. */
+    tk_answer loaded = tk_load_block_of(bank, written, source, sizeof source, &load, 2, 2048, 2);
+    if (refused("load", loaded.refusal)) return 1;
+    printf("stores: %" PRIu32 "\n", loaded.count);
+
+    tk_answer made = tk_sample_tile_of(bank, &tile, 0, picture, sizeof picture);
+    if (refused("picture", made.refusal)) return 1;
+    printf("reads: %" PRIu32 "\n", made.count);
+    for (uint32_t y = 0; y < tile.height; y++) {
+        for (uint32_t x = 0; x < tile.width; x++) {
+            const uint8_t *texel = picture + 4 * (y * tile.width + x);
+            printf("%s%02x%02x%02x%02x", x == 0 ? "" : " ", texel[0], texel[1], texel[2], texel[3]);
+        }
+        printf("\n");
+    }
+
+    tk_answer cut = tk_key_of(bank, &tile, 0, key);
+    if (refused("key", cut.refusal)) return 1;
+    printf("kept: %" PRIu32 "\n", cut.count);
+    /* A kept byte may be zero, as the others are; here none is. */
+    for (uint32_t a = 0; a < TK_BANK_BYTES; a++) {
+        if (key[a] != 0) printf("%" PRIu32 ": %02x\n", a, key[a]);
+    }
+    return 0;
+}

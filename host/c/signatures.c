@@ -1,0 +1,207 @@
+/* Header and archive agree in every signature: each entry is called with arguments of which every one matters, so that a
+ * swapped, missing or narrower parameter shows. Prints nothing if all is well. */
+
+#include <stdio.h>
+#include <string.h>
+
+#include "tulonkasa.h"
+
+static uint8_t bank[TK_BANK_BYTES], written[TK_MAP_BYTES], map[TK_MAP_BYTES], lanes[TK_LANE_MAP_BYTES], key[TK_BANK_BYTES];
+static uint8_t picture[4 * TK_LOOKUP_TEXELS], trail[2 * TK_TEXEL_READS_MOST * TK_LOOKUP_TEXELS];
+static uint8_t source[64];
+static int wrong;
+
+static void check(int holds, const char *what, int line) {
+    if (holds) return;
+    fprintf(stderr, "signatures.c:%d: %s\n", line, what);
+    wrong = 1;
+}
+#define CHECK(condition) check(condition, #condition, __LINE__)
+
+/* A tile whose numbers are all in range and all different from 0 where the call allows it. */
+static tk_tile plain_tile(void) {
+    tk_tile tile = {4, 1, 1, 1, 2, 2, 1, 1, 1, 2, 3, 2};
+    return tile;
+}
+
+/* The twelve numbers as an array, so that each can be put out of range in turn. */
+static tk_tile with(tk_tile tile, size_t place, uint32_t number) {
+    uint32_t numbers[12];
+    memcpy(numbers, &tile, sizeof numbers);
+    numbers[place] = number;
+    memcpy(&tile, numbers, sizeof numbers);
+    return tile;
+}
+
+/* Each of the twelve arrives whole and in its place: its limit is taken, and one past it refused, by 3 for the mode (the
+ * fourth), else by 2. A number of 2^32 - 1 is refused as well, so all 32 bits arrive. */
+static void check_the_twelve(void) {
+    static const uint32_t most[12] = {7, 3, 15, 3, 3, 3, 15, 15, 511, 511, 1024, 1024};
+    for (size_t i = 0; i < 12; i++) {
+        tk_tile full = with(plain_tile(), i, most[i]), past = with(plain_tile(), i, most[i] + 1),
+                far = with(plain_tile(), i, UINT32_MAX);
+        uint32_t refusal = i == 3 ? 3 : 2;
+        CHECK(tk_sampling_of(&full).refusal == 0);
+        CHECK(tk_reach_of(&full, map) == 0);
+        CHECK(tk_tile_has_load_of(&full, written).refusal == 0);
+        const tk_tile *bad[] = {&past, &far};
+        for (size_t k = 0; k < 2; k++) {
+            CHECK(tk_sampling_of(bad[k]).refusal == refusal);
+            CHECK(tk_reach_of(bad[k], map) == refusal);
+            CHECK(tk_tile_has_load_of(bad[k], written).refusal == refusal);
+            CHECK(tk_sample_tile_of(bank, bad[k], 0, picture, sizeof picture).refusal == refusal);
+            CHECK(tk_sample_tile_observed_of(bank, bad[k], 0, picture, sizeof picture, trail, sizeof trail).refusal ==
+                  refusal);
+            CHECK(tk_sampling_lookup_of(bank, bad[k], 0, picture, sizeof picture).refusal == refusal);
+            CHECK(tk_sampling_lookup_observed_of(bank, bad[k], 0, picture, sizeof picture, trail, sizeof trail).refusal ==
+                  refusal);
+            CHECK(tk_key_of(bank, bad[k], 0, key).refusal == refusal);
+        }
+    }
+}
+
+/* Loads: four numbers of the tile, image_siz, and the load's own, each at its limit and one past it. */
+static void check_loads(void) {
+    static const uint32_t block_most[] = {7, 3, 511, 511, 3, 4095, 2048};
+    static const uint32_t tile_most[] = {7, 3, 511, 511, 3, 1024, 512, 65535};
+    static const uint32_t tlut_most[] = {7, 3, 511, 511, 3, 1024, 1024, 65535};
+    for (size_t i = 0; i < 8; i++) {
+        for (uint32_t past = 0; past < 2; past++) {
+            uint32_t b[7] = {0, 2, 1, 2, 2, 1, 2}, t[8] = {0, 2, 1, 2, 2, 1, 2, 8}, p[8] = {0, 2, 1, 2, 2, 4, 2, 8};
+            uint32_t refusal = past == 0 ? 0 : i < 4 ? 2 : 4;
+            if (i < 7) {
+                b[i] = block_most[i] + past;
+                CHECK(tk_load_block(bank, sizeof bank, written, sizeof written, source, sizeof source, b[0], b[1], b[2],
+                                    b[3], b[4], b[5], b[6])
+                          .refusal == refusal);
+            }
+            t[i] = tile_most[i] + past;
+            CHECK(tk_load_tile(bank, sizeof bank, written, sizeof written, source, sizeof source, t[0], t[1], t[2], t[3],
+                               t[4], t[5], t[6], t[7])
+                      .refusal == refusal);
+            p[i] = tlut_most[i] + past;
+            CHECK(tk_load_tlut(bank, sizeof bank, written, sizeof written, source, sizeof source, p[0], p[1], p[2], p[3],
+                               p[4], p[5], p[6], p[7])
+                      .refusal == refusal);
+        }
+    }
+    CHECK(tk_load_tlut(bank, sizeof bank, written, sizeof written, source, sizeof source, 0, 0, 0, 0, 0, 1, 0, 0).refusal ==
+          4);
+}
+
+/* Lengths and lane: each buffer one short, and a lane of 4. */
+static void check_lengths(void) {
+    tk_tile tile = plain_tile();
+    const tk_tile *t = &tile;
+    CHECK(tk_load_block(bank, 4095, written, 512, source, 64, 0, 0, 0, 0, 0, 0, 0).refusal == 1);
+    CHECK(tk_load_block(bank, 4096, written, 511, source, 64, 0, 0, 0, 0, 0, 0, 0).refusal == 1);
+    CHECK(tk_load_tile(bank, 4095, written, 512, source, 64, 0, 0, 0, 0, 0, 0, 0, 0).refusal == 1);
+    CHECK(tk_load_tile(bank, 4096, written, 511, source, 64, 0, 0, 0, 0, 0, 0, 0, 0).refusal == 1);
+    CHECK(tk_load_tlut(bank, 4095, written, 512, source, 64, 0, 0, 0, 0, 0, 0, 1, 0).refusal == 1);
+    CHECK(tk_load_tlut(bank, 4096, written, 511, source, 64, 0, 0, 0, 0, 0, 0, 1, 0).refusal == 1);
+    CHECK(tk_reach(TK_TILE_ARGUMENTS(t), map, 511) == 1);
+    CHECK(tk_tile_has_load(TK_TILE_ARGUMENTS(t), written, 511).refusal == 1);
+    CHECK(tk_palette_nonreplicated(bank, 4095, lanes, 32) == 1);
+    CHECK(tk_palette_nonreplicated(bank, 4096, lanes, 31) == 1);
+    CHECK(tk_key(bank, 4095, TK_TILE_ARGUMENTS(t), 0, key, 4096).refusal == 1);
+    CHECK(tk_key(bank, 4096, TK_TILE_ARGUMENTS(t), 0, key, 4095).refusal == 1);
+    CHECK(tk_key_of(bank, t, 4, key).refusal == 3);
+    CHECK(tk_sample_tile(bank, 4095, TK_TILE_ARGUMENTS(t), 0, picture, 24).refusal == 1);
+    CHECK(tk_sample_tile_of(bank, t, 4, picture, 24).refusal == 3);
+    CHECK(tk_sample_tile_of(bank, t, 0, picture, 23).refusal == 6);
+    CHECK(tk_sample_tile_observed(bank, 4095, TK_TILE_ARGUMENTS(t), 0, picture, 24, trail, 12).refusal == 1);
+    CHECK(tk_sample_tile_observed_of(bank, t, 4, picture, 24, trail, 12).refusal == 3);
+    CHECK(tk_sample_tile_observed_of(bank, t, 0, picture, 23, trail, 12).refusal == 6);
+    CHECK(tk_sample_tile_observed_of(bank, t, 0, picture, 24, trail, 11).refusal == 7);
+    CHECK(tk_sampling_lookup(bank, 4095, TK_TILE_ARGUMENTS(t), 0, picture, sizeof picture).refusal == 1);
+    CHECK(tk_sampling_lookup_of(bank, t, 4, picture, sizeof picture).refusal == 3);
+    CHECK(tk_sampling_lookup_of(bank, t, 0, picture, sizeof picture - 1).refusal == 6);
+    CHECK(tk_sampling_lookup_observed(bank, 4095, TK_TILE_ARGUMENTS(t), 0, picture, sizeof picture, trail, 32768).refusal ==
+          1);
+    CHECK(tk_sampling_lookup_observed_of(bank, t, 4, picture, sizeof picture, trail, 32768).refusal == 3);
+    CHECK(tk_sampling_lookup_observed_of(bank, t, 0, picture, sizeof picture - 1, trail, 32768).refusal == 6);
+    CHECK(tk_sampling_lookup_observed_of(bank, t, 0, picture, sizeof picture, trail, 32767).refusal == 7);
+}
+
+/* What each entry answers and leaves on success. */
+static void check_answers(void) {
+    tk_tile tile = plain_tile();
+    for (uint32_t i = 0; i < TK_BANK_BYTES; i++) bank[i] = (uint8_t)i;
+    memset(written, 0, sizeof written);
+
+    tk_sampling_answer sampling = tk_sampling_of(&tile);
+    CHECK(sampling.refusal == 0 && sampling.flag == 0 && sampling.width == 3 && sampling.height == 2);
+    tk_tile repeating = with(with(tile, 4, 0), 6, 15);
+    sampling = tk_sampling_of(&repeating);
+    CHECK(sampling.refusal == 0 && sampling.flag == 1 && sampling.width == 4096 && sampling.height == 4);
+
+    /* Row 0 reads 16, 17, 18; row 1 reads 24 to 26 with bit 4 the other way round: 28, 29, 30. */
+    static const uint8_t texels[] = {16, 16, 16, 16, 17, 17, 17, 17, 18, 18, 18, 18,
+                                     28, 28, 28, 28, 29, 29, 29, 29, 30, 30, 30, 30};
+    static const uint8_t reads[] = {0, 16, 0, 17, 0, 18, 0, 28, 0, 29, 0, 30};
+    tk_answer answer = tk_sample_tile_of(bank, &tile, 0, picture, sizeof picture);
+    CHECK(answer.refusal == 0 && answer.count == 6 && memcmp(picture, texels, sizeof texels) == 0);
+    memset(picture, 0, sizeof picture);
+    answer = tk_sample_tile_observed_of(bank, &tile, 0, picture, sizeof picture, trail, sizeof trail);
+    CHECK(answer.refusal == 0 && answer.count == 6 && memcmp(picture, texels, sizeof texels) == 0);
+    CHECK(memcmp(trail, reads, sizeof reads) == 0);
+
+    answer = tk_sampling_lookup_of(bank, &tile, 0, picture, sizeof picture);
+    CHECK(answer.refusal == 0 && answer.count == TK_LOOKUP_TEXELS && picture[0] == 16 && picture[4 * 8192] == 20);
+    memset(picture, 0, sizeof picture);
+    answer = tk_sampling_lookup_observed_of(bank, &tile, 0, picture, sizeof picture, trail, sizeof trail);
+    CHECK(answer.refusal == 0 && answer.count == TK_LOOKUP_TEXELS && picture[0] == 16 && picture[4 * 8192] == 20);
+    CHECK(trail[1] == 16 && trail[2 * 8192 + 1] == 20);
+
+    CHECK(tk_reach_of(&tile, map) == 0 && tk_is_marked(map, 16) && tk_is_marked(map, 30) && !tk_is_marked(map, 19));
+    tk_yes_answer yes = tk_tile_has_load_of(&tile, written);
+    CHECK(yes.refusal == 0 && yes.yes == 0);
+    written[3] = 0x40;
+    yes = tk_tile_has_load_of(&tile, written);
+    CHECK(yes.refusal == 0 && yes.yes == 1);
+
+    answer = tk_key_of(bank, &tile, 0, key);
+    CHECK(answer.refusal == 0 && answer.count == 6 && key[16] == 16 && key[30] == 30 && key[19] == 0 && key[4095] == 0);
+
+    CHECK(tk_palette_nonreplicated_of(bank, lanes) == 0 && lanes[0] == 255 && lanes[31] == 255);
+
+    /* A word of eight bytes at address 16; then one in row 1; then a palette entry. */
+    tk_tile load = {0, 2, 0, 0, 0, 0, 0, 0, 1, 2, 0, 0};
+    for (uint32_t i = 0; i < sizeof source; i++) source[i] = (uint8_t)(100 + i);
+    answer = tk_load_block_of(bank, written, source, sizeof source, &load, 2, 0, 1);
+    CHECK(answer.refusal == 0 && answer.count == 8 && bank[16] == 100 && bank[23] == 107 && written[2] == 255);
+    answer = tk_load_tile_of(bank, written, source, sizeof source, &load, 2, 2, 1, 16);
+    CHECK(answer.refusal == 0 && answer.count == 16 && bank[16] == 100 && bank[28] == 116 && written[3] == 255);
+    answer = tk_load_tlut_of(bank, written, source, sizeof source, &load, 0, 2, 2, 16);
+    CHECK(answer.refusal == 0 && answer.count == 32 && bank[16] == 100 && bank[24] == 102 && bank[48] == 116 &&
+          bank[56] == 118);
+}
+
+/* An empty buffer may be null. */
+static void check_null(void) {
+    tk_tile tile = with(plain_tile(), 10, 0);
+    const tk_tile *t = &tile;
+    CHECK(tk_load_block(bank, sizeof bank, written, sizeof written, NULL, 0, 0, 2, 0, 0, 2, 0, 1).count == 8);
+    CHECK(tk_load_tile(bank, sizeof bank, written, sizeof written, NULL, 0, 0, 2, 0, 0, 2, 1, 1, 0).count == 8);
+    CHECK(tk_load_tlut(bank, sizeof bank, written, sizeof written, NULL, 0, 0, 2, 0, 0, 2, 1, 1, 0).count == 8);
+    CHECK(tk_sample_tile_of(bank, t, 0, NULL, 0).refusal == 0);
+    CHECK(tk_sample_tile_observed_of(bank, t, 0, NULL, 0, NULL, 0).refusal == 0);
+    CHECK(tk_sampling_lookup_of(bank, t, 0, NULL, 0).refusal == 6);
+    CHECK(tk_sampling_lookup_observed_of(bank, t, 0, picture, sizeof picture, NULL, 0).refusal == 7);
+    CHECK(tk_load_block(NULL, 0, NULL, 0, NULL, 0, 0, 0, 0, 0, 0, 0, 0).refusal == 1);
+    CHECK(tk_load_tile(NULL, 0, NULL, 0, NULL, 0, 0, 0, 0, 0, 0, 0, 0, 0).refusal == 1);
+    CHECK(tk_load_tlut(NULL, 0, NULL, 0, NULL, 0, 0, 0, 0, 0, 0, 0, 1, 0).refusal == 1);
+    CHECK(tk_reach(TK_TILE_ARGUMENTS(t), NULL, 0) == 1);
+    CHECK(tk_tile_has_load(TK_TILE_ARGUMENTS(t), NULL, 0).refusal == 1);
+    CHECK(tk_palette_nonreplicated(NULL, 0, NULL, 0) == 1);
+    CHECK(tk_key(NULL, 0, TK_TILE_ARGUMENTS(t), 0, NULL, 0).refusal == 1);
+}
+
+int main(void) {
+    check_the_twelve();
+    check_loads();
+    check_lengths();
+    check_answers();
+    check_null();
+    return wrong;
+}

@@ -1,0 +1,232 @@
+//! The bank, and the calls on it.
+use crate::{slices, AddressMap, LaneMap, Refusal, Tile};
+
+/// The bytes of a bank, and of a key.
+pub const BANK_BYTES: usize = 4096;
+
+/// The texels of a lookup.
+pub const LOOKUP_TEXELS: usize = 16384;
+
+/// A texel reads at most this many bytes of the bank.
+const TEXEL_READS_MOST: usize = 4;
+
+/// Texture memory: 4,096 bytes, and the map of those that a load has written.
+#[derive(Clone, Debug, PartialEq, Eq)]
+pub struct Bank {
+    bytes: [u8; BANK_BYTES],
+    written: AddressMap,
+}
+
+/// A picture with the addresses that were read for it, in order.
+#[derive(Clone, Debug, PartialEq, Eq)]
+pub struct Observed {
+    /// Four bytes a texel: red, green, blue, alpha.
+    pub picture: Vec<u8>,
+    /// The addresses.
+    pub trail: Vec<u16>,
+}
+
+/// The bytes of a bank that a picture reads, and no others.
+#[derive(Clone, Debug, PartialEq, Eq, Hash)]
+pub struct Key {
+    /// The bank with each byte kept that the picture reads, and all others zero.
+    pub bytes: [u8; BANK_BYTES],
+    /// How many bytes were kept, those that are zero among them.
+    pub kept: u32,
+}
+
+impl Default for Bank {
+    fn default() -> Self {
+        Self::from([0; BANK_BYTES])
+    }
+}
+
+/// A bank of these bytes, none marked as written.
+impl From<[u8; BANK_BYTES]> for Bank {
+    fn from(bytes: [u8; BANK_BYTES]) -> Self {
+        Self { bytes, written: AddressMap::default() }
+    }
+}
+
+impl Bank {
+    /// A fresh bank: all zero, nothing marked as written.
+    pub fn new() -> Self {
+        Self::default()
+    }
+
+    /// Its bytes.
+    pub fn bytes(&self) -> &[u8; BANK_BYTES] {
+        &self.bytes
+    }
+
+    /// Its bytes, to be changed by hand. That marks nothing as written.
+    pub fn bytes_mut(&mut self) -> &mut [u8; BANK_BYTES] {
+        &mut self.bytes
+    }
+
+    /// The addresses that a load has stored to.
+    pub fn written(&self) -> &AddressMap {
+        &self.written
+    }
+
+    /// Loads a block of `words` words of eight bytes, and answers the count of stores. Of the tile it takes `fmt`, `siz`,
+    /// `line` and `tmem_addr`. The source is read as zero past its end.
+    ///
+    /// ```
+    /// use tulonkasa::{Bank, Tile};
+    ///
+    /// let mut bank = Bank::new();
+    /// let tile = Tile { fmt: 0, siz: 3, ..Tile::default() };
+    /// assert_eq!(bank.load_block(&[0, 1, 2, 3, 4, 5, 6, 7], &tile, 3, 0, 1)?, 8);
+    /// assert_eq!(bank.bytes()[..4], [0, 1, 4, 5]);
+    /// assert_eq!(bank.bytes()[2048..2052], [2, 3, 6, 7]);
+    /// # Ok::<(), tulonkasa::Refusal>(())
+    /// ```
+    pub fn load_block(&mut self, source: &[u8], tile: &Tile, image_siz: u32, dxt: u32, words: u32) -> Result<u32, Refusal> {
+        slices::load_block(&mut self.bytes, &mut self.written.0, source, tile, image_siz, dxt, words)
+    }
+
+    /// Loads `rows` rows of `words` words each, `stride` source bytes apart, and answers the count of stores.
+    ///
+    /// ```
+    /// use tulonkasa::{Bank, Tile};
+    ///
+    /// let mut bank = Bank::new();
+    /// let tile = Tile { siz: 2, line: 1, ..Tile::default() };
+    /// let source: Vec<u8> = (0..16).collect();
+    /// assert_eq!(bank.load_tile(&source, &tile, 2, 2, 1, 8)?, 16);
+    /// assert_eq!(bank.bytes()[8..16], [12, 13, 14, 15, 8, 9, 10, 11]); // odd rows swap their halves
+    /// # Ok::<(), tulonkasa::Refusal>(())
+    /// ```
+    pub fn load_tile(
+        &mut self,
+        source: &[u8],
+        tile: &Tile,
+        image_siz: u32,
+        rows: u32,
+        words: u32,
+        stride: u32,
+    ) -> Result<u32, Refusal> {
+        slices::load_tile(&mut self.bytes, &mut self.written.0, source, tile, image_siz, rows, words, stride)
+    }
+
+    /// Loads a palette of `rows` rows of `count` entries, `stride` source bytes apart, and answers the count of stores.
+    ///
+    /// ```
+    /// use tulonkasa::{Bank, Tile};
+    ///
+    /// let mut bank = Bank::new();
+    /// let tile = Tile { tmem_addr: 256, ..Tile::default() };
+    /// bank.load_tlut(&[0xab, 0xcd], &tile, 2, 1, 1, 0)?;
+    /// assert_eq!(bank.bytes()[2048..2056], [0xab, 0xcd, 0xab, 0xcd, 0xab, 0xcd, 0xab, 0xcd]);
+    /// # Ok::<(), tulonkasa::Refusal>(())
+    /// ```
+    pub fn load_tlut(
+        &mut self,
+        source: &[u8],
+        tile: &Tile,
+        image_siz: u32,
+        count: u32,
+        rows: u32,
+        stride: u32,
+    ) -> Result<u32, Refusal> {
+        slices::load_tlut(&mut self.bytes, &mut self.written.0, source, tile, image_siz, count, rows, stride)
+    }
+
+    /// The tile's plain picture: `width` by `height` texels of four bytes.
+    ///
+    /// ```
+    /// use tulonkasa::{Bank, Tile};
+    ///
+    /// let mut bank = Bank::new();
+    /// bank.bytes_mut()[..2].copy_from_slice(&[0xf8, 0x01]);
+    /// let tile = Tile { fmt: 0, siz: 2, width: 1, height: 1, ..Tile::default() };
+    /// assert_eq!(bank.sample_tile(&tile, 0)?, [255, 0, 0, 255]);
+    /// # Ok::<(), tulonkasa::Refusal>(())
+    /// ```
+    pub fn sample_tile(&self, tile: &Tile, lane: u32) -> Result<Vec<u8>, Refusal> {
+        let mut picture = vec![0; 4 * tile.texels()?];
+        self.sample_tile_into(tile, lane, &mut picture)?;
+        Ok(picture)
+    }
+
+    /// The plain picture into a lent buffer, whose surplus stays as it is. Answers the count of reads.
+    pub fn sample_tile_into(&self, tile: &Tile, lane: u32, picture: &mut [u8]) -> Result<u32, Refusal> {
+        slices::sample_tile(&self.bytes, tile, lane, picture)
+    }
+
+    /// The plain picture, with the addresses that were read.
+    ///
+    /// ```
+    /// use tulonkasa::{Bank, Tile};
+    ///
+    /// let tile = Tile { fmt: 0, siz: 3, width: 1, height: 1, ..Tile::default() };
+    /// assert_eq!(Bank::new().sample_tile_observed(&tile, 0)?.trail, [0, 1, 2048, 2049]);
+    /// # Ok::<(), tulonkasa::Refusal>(())
+    /// ```
+    pub fn sample_tile_observed(&self, tile: &Tile, lane: u32) -> Result<Observed, Refusal> {
+        Observed::fill(tile.texels()?, |picture, trail| {
+            slices::sample_tile_observed(&self.bytes, tile, lane, picture, trail)
+        })
+    }
+
+    /// The tile's lookup: [`LOOKUP_TEXELS`] texels of four bytes, one for each place of the bank.
+    pub fn sampling_lookup(&self, tile: &Tile, lane: u32) -> Result<Vec<u8>, Refusal> {
+        let mut picture = vec![0; 4 * LOOKUP_TEXELS];
+        self.sampling_lookup_into(tile, lane, &mut picture)?;
+        Ok(picture)
+    }
+
+    /// The lookup into a lent buffer, whose surplus stays as it is. Answers the count of reads.
+    pub fn sampling_lookup_into(&self, tile: &Tile, lane: u32, picture: &mut [u8]) -> Result<u32, Refusal> {
+        slices::sampling_lookup(&self.bytes, tile, lane, picture)
+    }
+
+    /// The lookup, with the addresses that were read.
+    pub fn sampling_lookup_observed(&self, tile: &Tile, lane: u32) -> Result<Observed, Refusal> {
+        Observed::fill(LOOKUP_TEXELS, |picture, trail| {
+            slices::sampling_lookup_observed(&self.bytes, tile, lane, picture, trail)
+        })
+    }
+
+    /// Whether the tile can reach an address that a load has written.
+    pub fn tile_has_load(&self, tile: &Tile) -> Result<bool, Refusal> {
+        slices::tile_has_load(tile, &self.written.0)
+    }
+
+    /// The palette slots whose four pairs of bytes are not all equal.
+    pub fn palette_nonreplicated(&self) -> Result<LaneMap, Refusal> {
+        let mut map = LaneMap::default();
+        slices::palette_nonreplicated(&self.bytes, &mut map.0)?;
+        Ok(map)
+    }
+
+    /// The key of the picture that the tile calls for.
+    ///
+    /// ```
+    /// use tulonkasa::{Bank, Tile};
+    ///
+    /// let bank = Bank::from([255; 4096]);
+    /// let tile = Tile { fmt: 4, line: 1, width: 1, height: 2, ..Tile::default() };
+    /// let key = bank.key(&tile, 0)?;
+    /// assert_eq!(key.kept, 2);
+    /// assert_eq!((key.bytes[0], key.bytes[12]), (255, 255));
+    /// # Ok::<(), tulonkasa::Refusal>(())
+    /// ```
+    pub fn key(&self, tile: &Tile, lane: u32) -> Result<Key, Refusal> {
+        let mut bytes = [0; BANK_BYTES];
+        let kept = slices::key(&self.bytes, tile, lane, &mut bytes)?;
+        Ok(Key { bytes, kept })
+    }
+}
+
+impl Observed {
+    /// Lends a call a picture of so many texels and a trail that is long enough, and reads the trail.
+    fn fill(texels: usize, call: impl FnOnce(&mut [u8], &mut [u8]) -> Result<u32, Refusal>) -> Result<Self, Refusal> {
+        let mut picture = vec![0; 4 * texels];
+        let mut trail = vec![0; 2 * TEXEL_READS_MOST * texels];
+        let reads = call(&mut picture, &mut trail)? as usize;
+        let trail = trail.chunks_exact(2).take(reads).map(|pair| u16::from_be_bytes([pair[0], pair[1]])).collect();
+        Ok(Self { picture, trail })
+    }
+}

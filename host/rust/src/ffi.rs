@@ -1,0 +1,124 @@
+//! The archive's entries as they are, for callers that lend their own buffers. `include/tulonkasa.h` says what each takes,
+//! refuses, answers and leaves.
+//!
+//! # Safety
+//!
+//! Each pointer must be good for its length (a length of 0 allows any pointer), and the buffers of one call must not
+//! overlap. Nothing else is asked: every number and every length is taken or refused.
+
+/// A refusal, and a count of stores, reads or kept bytes.
+#[repr(C)]
+#[derive(Clone, Copy, Debug, PartialEq, Eq)]
+pub struct Answer {
+    pub refusal: u32,
+    pub count: u32,
+}
+
+/// A refusal, the sampling flag, and the allocation extent.
+#[repr(C)]
+#[derive(Clone, Copy, Debug, PartialEq, Eq)]
+pub struct SamplingAnswer {
+    pub refusal: u32,
+    pub flag: u32,
+    pub width: u32,
+    pub height: u32,
+}
+
+/// A refusal, and 1 for yes or 0 for no.
+#[repr(C)]
+#[derive(Clone, Copy, Debug, PartialEq, Eq)]
+pub struct YesAnswer {
+    pub refusal: u32,
+    pub yes: u32,
+}
+
+/// Declares entries. `tile` among the parameters stands for the twelve numbers of a tile and its mode.
+macro_rules! entries {
+    ($(fn $name:ident($($before:ident: $before_type:ty),*; tile $(, $after:ident: $after_type:ty)*)
+        -> $answer:ty;)*) => {
+        extern "C" {
+            $(pub fn $name(
+                $($before: $before_type,)*
+                fmt: u32, siz: u32, palette: u32, mode: u32, cms: u32, cmt: u32, masks: u32, maskt: u32,
+                line: u32, tmem_addr: u32, width: u32, height: u32
+                $(, $after: $after_type)*
+            ) -> $answer;)*
+        }
+    };
+}
+
+extern "C" {
+    pub fn tk_load_block(
+        bank: *mut u8,
+        bank_length: usize,
+        written: *mut u8,
+        written_length: usize,
+        source: *const u8,
+        source_length: usize,
+        fmt: u32,
+        siz: u32,
+        line: u32,
+        tmem_addr: u32,
+        image_siz: u32,
+        dxt: u32,
+        words: u32,
+    ) -> Answer;
+
+    pub fn tk_load_tile(
+        bank: *mut u8,
+        bank_length: usize,
+        written: *mut u8,
+        written_length: usize,
+        source: *const u8,
+        source_length: usize,
+        fmt: u32,
+        siz: u32,
+        line: u32,
+        tmem_addr: u32,
+        image_siz: u32,
+        rows: u32,
+        words: u32,
+        stride: u32,
+    ) -> Answer;
+
+    pub fn tk_load_tlut(
+        bank: *mut u8,
+        bank_length: usize,
+        written: *mut u8,
+        written_length: usize,
+        source: *const u8,
+        source_length: usize,
+        fmt: u32,
+        siz: u32,
+        line: u32,
+        tmem_addr: u32,
+        image_siz: u32,
+        count: u32,
+        rows: u32,
+        stride: u32,
+    ) -> Answer;
+
+    pub fn tk_palette_nonreplicated(bank: *const u8, bank_length: usize, map: *mut u8, map_length: usize) -> u32;
+}
+
+entries! {
+    fn tk_sampling(; tile) -> SamplingAnswer;
+
+    fn tk_sample_tile(bank: *const u8, bank_length: usize; tile, lane: u32, picture: *mut u8, picture_length: usize)
+        -> Answer;
+
+    fn tk_sample_tile_observed(bank: *const u8, bank_length: usize; tile, lane: u32, picture: *mut u8,
+        picture_length: usize, trail: *mut u8, trail_length: usize) -> Answer;
+
+    fn tk_sampling_lookup(bank: *const u8, bank_length: usize; tile, lane: u32, picture: *mut u8,
+        picture_length: usize) -> Answer;
+
+    fn tk_sampling_lookup_observed(bank: *const u8, bank_length: usize; tile, lane: u32, picture: *mut u8,
+        picture_length: usize, trail: *mut u8, trail_length: usize) -> Answer;
+
+    fn tk_reach(; tile, map: *mut u8, map_length: usize) -> u32;
+
+    fn tk_tile_has_load(; tile, written: *const u8, written_length: usize) -> YesAnswer;
+
+    fn tk_key(bank: *const u8, bank_length: usize; tile, lane: u32, key: *mut u8, key_length: usize) -> Answer;
+}

@@ -1,0 +1,38 @@
+//! Texture memory of a cartridge game console: loads, pictures, and a key for each picture.
+//!
+//! The work is done by a static library whose every function is proved to meet its contract on every input. This crate
+//! gives it Rust's types: a [`Bank`] of memory, a [`Tile`] that says how to read it, and a [`Refusal`] where a number is out
+//! of range. No call panics, and a refused one changes nothing.
+//!
+//! ```
+//! use tulonkasa::{Bank, Refusal, Tile};
+//!
+//! let mut bank = Bank::new();
+//! let tile = Tile { fmt: 0, siz: 2, line: 1, width: 4, height: 1, ..Tile::default() };
+//! bank.load_block(&[0xf8, 0x01, 0x07, 0xc1, 0x00, 0x3f, 0xff, 0xff], &tile, 2, 0, 1)?;
+//!
+//! let picture = bank.sample_tile(&tile, 0)?;
+//! assert_eq!(picture[..8], [255, 0, 0, 255, 0, 255, 0, 255]);
+//!
+//! let key = bank.key(&tile, 0)?;
+//! assert_eq!(key.kept, 8);
+//!
+//! let wide = Tile { width: 1025, ..tile };
+//! assert_eq!(bank.sample_tile(&wide, 0), Err(Refusal::Tile));
+//! # Ok::<(), Refusal>(())
+//! ```
+
+mod bank;
+pub mod ffi;
+mod map;
+mod refusal;
+pub mod slices;
+mod tile;
+
+pub use bank::{Bank, Key, Observed, BANK_BYTES, LOOKUP_TEXELS};
+pub use map::{AddressMap, LaneMap, Map};
+pub use refusal::Refusal;
+pub use tile::{Sampling, Tile};
+
+#[cfg(test)]
+mod tests;

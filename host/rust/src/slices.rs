@@ -1,0 +1,142 @@
+//! The archive's calls on lent slices of any length, for callers that keep their own buffers. `include/tulonkasa.h` says what
+//! each takes, refuses, answers and leaves. All of this crate's unsafe code is here.
+use crate::{ffi, Refusal, Sampling, Tile};
+
+/// Calls an entry of [`ffi`]. Around the tile, whose twelve numbers are passed, stand numbers, and slices as `[slice]`
+/// to be read or `[mut slice]` to be written.
+macro_rules! call {
+    ($entry:ident($([$read:ident],)* $tile:ident $(, $number:ident)* $(, [mut $write:ident])*)) => {
+        // SAFETY: each pointer comes with its slice's length, and Rust's borrows do not overlap.
+        unsafe {
+            ffi::$entry(
+                $($read.as_ptr(), $read.len(),)* $tile.fmt, $tile.siz, $tile.palette, $tile.mode, $tile.cms, $tile.cmt,
+                $tile.masks, $tile.maskt, $tile.line, $tile.tmem_addr, $tile.width, $tile.height $(, $number)*
+                $(, $write.as_mut_ptr(), $write.len())*
+            )
+        }
+    };
+}
+
+/// Calls a load of [`ffi`].
+macro_rules! load {
+    ($entry:ident($bank:ident, $written:ident, $source:ident, $tile:ident $(, $number:ident)*)) => {{
+        // SAFETY: each pointer comes with its slice's length, and Rust's borrows do not overlap.
+        let answer = unsafe {
+            ffi::$entry(
+                $bank.as_mut_ptr(), $bank.len(), $written.as_mut_ptr(), $written.len(), $source.as_ptr(), $source.len(),
+                $tile.fmt, $tile.siz, $tile.line, $tile.tmem_addr $(, $number)*
+            )
+        };
+        counted(answer)
+    }};
+}
+
+/// Answers the count of stores.
+pub fn load_block(
+    bank: &mut [u8],
+    written: &mut [u8],
+    source: &[u8],
+    tile: &Tile,
+    image_siz: u32,
+    dxt: u32,
+    words: u32,
+) -> Result<u32, Refusal> {
+    load!(tk_load_block(bank, written, source, tile, image_siz, dxt, words))
+}
+
+/// Answers the count of stores.
+#[allow(clippy::too_many_arguments)]
+pub fn load_tile(
+    bank: &mut [u8],
+    written: &mut [u8],
+    source: &[u8],
+    tile: &Tile,
+    image_siz: u32,
+    rows: u32,
+    words: u32,
+    stride: u32,
+) -> Result<u32, Refusal> {
+    load!(tk_load_tile(bank, written, source, tile, image_siz, rows, words, stride))
+}
+
+/// Answers the count of stores.
+#[allow(clippy::too_many_arguments)]
+pub fn load_tlut(
+    bank: &mut [u8],
+    written: &mut [u8],
+    source: &[u8],
+    tile: &Tile,
+    image_siz: u32,
+    count: u32,
+    rows: u32,
+    stride: u32,
+) -> Result<u32, Refusal> {
+    load!(tk_load_tlut(bank, written, source, tile, image_siz, count, rows, stride))
+}
+
+/// Answers which picture the tile calls for.
+pub fn sampling(tile: &Tile) -> Result<Sampling, Refusal> {
+    let answer = call!(tk_sampling(tile));
+    let sampling = Sampling { lookup: answer.flag == 1, width: answer.width, height: answer.height };
+    Refusal::check(answer.refusal, sampling)
+}
+
+/// Answers the count of reads.
+pub fn sample_tile(bank: &[u8], tile: &Tile, lane: u32, picture: &mut [u8]) -> Result<u32, Refusal> {
+    counted(call!(tk_sample_tile([bank], tile, lane, [mut picture])))
+}
+
+/// Answers the count of reads.
+pub fn sample_tile_observed(
+    bank: &[u8],
+    tile: &Tile,
+    lane: u32,
+    picture: &mut [u8],
+    trail: &mut [u8],
+) -> Result<u32, Refusal> {
+    counted(call!(tk_sample_tile_observed([bank], tile, lane, [mut picture], [mut trail])))
+}
+
+/// Answers the count of reads.
+pub fn sampling_lookup(bank: &[u8], tile: &Tile, lane: u32, picture: &mut [u8]) -> Result<u32, Refusal> {
+    counted(call!(tk_sampling_lookup([bank], tile, lane, [mut picture])))
+}
+
+/// Answers the count of reads.
+pub fn sampling_lookup_observed(
+    bank: &[u8],
+    tile: &Tile,
+    lane: u32,
+    picture: &mut [u8],
+    trail: &mut [u8],
+) -> Result<u32, Refusal> {
+    counted(call!(tk_sampling_lookup_observed([bank], tile, lane, [mut picture], [mut trail])))
+}
+
+/// Overwrites the map.
+pub fn reach(tile: &Tile, map: &mut [u8]) -> Result<(), Refusal> {
+    Refusal::check(call!(tk_reach(tile, [mut map])), ())
+}
+
+/// Answers whether reach and the written map meet.
+pub fn tile_has_load(tile: &Tile, written: &[u8]) -> Result<bool, Refusal> {
+    let (map, length) = (written.as_ptr(), written.len());
+    let answer = call!(tk_tile_has_load(tile, map, length));
+    Refusal::check(answer.refusal, answer.yes == 1)
+}
+
+/// Overwrites the lane map.
+pub fn palette_nonreplicated(bank: &[u8], map: &mut [u8]) -> Result<(), Refusal> {
+    // SAFETY: each pointer comes with its slice's length, and Rust's borrows do not overlap.
+    let refusal = unsafe { ffi::tk_palette_nonreplicated(bank.as_ptr(), bank.len(), map.as_mut_ptr(), map.len()) };
+    Refusal::check(refusal, ())
+}
+
+/// Overwrites the key, and answers the count of kept bytes.
+pub fn key(bank: &[u8], tile: &Tile, lane: u32, key: &mut [u8]) -> Result<u32, Refusal> {
+    counted(call!(tk_key([bank], tile, lane, [mut key])))
+}
+
+fn counted(answer: ffi::Answer) -> Result<u32, Refusal> {
+    Refusal::check(answer.refusal, answer.count)
+}

@@ -1,0 +1,82 @@
+//! The tile record, and the calls that need no bank.
+use crate::{slices, AddressMap, Refusal};
+
+/// A tile and its mode. The default is all zero: a tile at the bank's start, of no texels.
+///
+/// Every number can be written down; one out of range is refused by the call that it is given to.
+#[derive(Clone, Copy, Debug, Default, PartialEq, Eq, Hash)]
+pub struct Tile {
+    /// Format, 0 to 7: 0 RGBA, 1 YUV, 2 indexed, 3 intensity and alpha, 4 intensity.
+    pub fmt: u32,
+    /// Size, 0 to 3: 4, 8, 16 or 32 bits a texel.
+    pub siz: u32,
+    /// Which sixteen palette entries a 4-bit index picks from, 0 to 15.
+    pub palette: u32,
+    /// 0 and 1: no palette. 2: a palette of RGBA 5/5/5/1. 3: a palette of intensity and alpha.
+    pub mode: u32,
+    /// Across: value 1 mirrors, value 2 clamps; 0 to 3.
+    pub cms: u32,
+    /// Down, as `cms`.
+    pub cmt: u32,
+    /// Across, the tile repeats every 2^masks texels; 0 for no repeating; 0 to 15.
+    pub masks: u32,
+    /// Down, as `masks`.
+    pub maskt: u32,
+    /// Words of eight bytes from one row to the next, 0 to 511.
+    pub line: u32,
+    /// The word of eight bytes at which the tile begins, 0 to 511.
+    pub tmem_addr: u32,
+    /// Texels across, 0 to 1,024.
+    pub width: u32,
+    /// Texels down, 0 to 1,024.
+    pub height: u32,
+}
+
+/// Which picture a tile calls for, and the texels to allocate for it.
+#[derive(Clone, Copy, Debug, PartialEq, Eq)]
+pub struct Sampling {
+    /// The tile calls for a lookup, not for a plain picture.
+    pub lookup: bool,
+    /// Texels across to allocate: 4,096 for a lookup, else the tile's width, at least 1.
+    pub width: u32,
+    /// Texels down to allocate: 4 for a lookup, else the tile's height, at least 1.
+    pub height: u32,
+}
+
+impl Tile {
+    /// Which picture the tile calls for.
+    ///
+    /// ```
+    /// use tulonkasa::Tile;
+    ///
+    /// let tile = Tile { width: 16, height: 1, masks: 5, ..Tile::default() };
+    /// let sampling = tile.sampling()?;
+    /// assert!(sampling.lookup);
+    /// assert_eq!((sampling.width, sampling.height), (4096, 4));
+    /// # Ok::<(), tulonkasa::Refusal>(())
+    /// ```
+    pub fn sampling(&self) -> Result<Sampling, Refusal> {
+        slices::sampling(self)
+    }
+
+    /// The addresses that the tile can reach.
+    ///
+    /// ```
+    /// use tulonkasa::Tile;
+    ///
+    /// let tile = Tile { fmt: 4, siz: 1, tmem_addr: 2, width: 3, height: 1, ..Tile::default() };
+    /// assert_eq!(tile.reach()?.iter().collect::<Vec<_>>(), [16, 17, 18]);
+    /// # Ok::<(), tulonkasa::Refusal>(())
+    /// ```
+    pub fn reach(&self) -> Result<AddressMap, Refusal> {
+        let mut map = AddressMap::default();
+        slices::reach(self, &mut map.0)?;
+        Ok(map)
+    }
+
+    /// The texels of the tile's plain picture, once its numbers are found in range.
+    pub(crate) fn texels(&self) -> Result<usize, Refusal> {
+        self.sampling()?;
+        Ok(self.width as usize * self.height as usize)
+    }
+}

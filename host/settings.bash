@@ -1,0 +1,42 @@
+# Read by the scripts that build and run what stands outside Rattle. Sets where things are; each can be given beforehand.
+#   TULONKASA_PRODUCT        the archive, x86-64 code       (target/staticlib/libtulonkasa.a)
+#   TULONKASA_ARCHIVE        the archive for this processor (the same; see host/archive for another processor's)
+#   TULONKASA_ORACLE_SOURCE  the original Rust's directory  (shared/docs/src beside the repository)
+root=$(cd "$(dirname "${BASH_SOURCE[0]}")/.." && pwd)
+TULONKASA_PRODUCT=$(realpath -m "${TULONKASA_PRODUCT:-$root/target/staticlib/libtulonkasa.a}")
+if [ "$(uname -m)" = x86_64 ]; then
+    TULONKASA_ARCHIVE=${TULONKASA_ARCHIVE:-$TULONKASA_PRODUCT}
+else
+    TULONKASA_ARCHIVE=${TULONKASA_ARCHIVE:-$root/target/staticlib/$(uname -m)/libtulonkasa.a}
+fi
+TULONKASA_ARCHIVE=$(realpath -m "$TULONKASA_ARCHIVE")
+TULONKASA_ORACLE_SOURCE=$(realpath -m "${TULONKASA_ORACLE_SOURCE:-$root/../shared/docs/src}")
+CARGO_TARGET_DIR=${CARGO_TARGET_DIR:-$root/target/cargo}
+CARGO_NET_OFFLINE=true
+export TULONKASA_PRODUCT TULONKASA_ARCHIVE TULONKASA_ORACLE_SOURCE CARGO_TARGET_DIR CARGO_NET_OFFLINE
+
+# need_archive: ends the script where the archive is missing.
+need_archive() {
+    if [ ! -f "$TULONKASA_ARCHIVE" ]; then
+        echo "$TULONKASA_ARCHIVE is missing: make it with host/archive, or name it by TULONKASA_ARCHIVE." >&2
+        exit 2
+    fi
+}
+
+# has_original: whether the original's source is there.
+has_original() {
+    [ -f "$TULONKASA_ORACLE_SOURCE/ultragfx/src/hle/tmem.rs" ]
+}
+
+# need_original: ends the script where the original's source is missing.
+need_original() {
+    if ! has_original; then
+        echo "$TULONKASA_ORACLE_SOURCE is missing: name the original's source by TULONKASA_ORACLE_SOURCE." >&2
+        exit 2
+    fi
+}
+
+# kit: the directory of the Rattle toolchain.
+kit() {
+    echo "${RATTLE_HOME:-$(dirname "$(dirname "$(readlink -f "$(command -v rt)")")")}"
+}

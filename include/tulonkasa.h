@@ -1,0 +1,252 @@
+/* Tulonkasa: the texture memory of a cartridge game console, as a C library.
+ *
+ * The texture memory is a bank of 4,096 bytes. The library loads it (block, tile, palette), makes pictures of it, says
+ * which of its bytes a tile can reach, and cuts a key for a picture: the bank with the bytes that making the picture
+ * reads kept, and all others zero.
+ *
+ * Rules that hold for every call:
+ *
+ * - A buffer is a pointer to bytes and a length. The library allocates nothing, keeps no pointer after it returns, and has
+ *   no state of its own, so calls on different buffers may run at the same time.
+ * - Buffers of one call must not overlap. A buffer of length 0 may have a null pointer.
+ * - Every number is taken. One that is out of range, or a buffer of a wrong length, is refused with a number (TK_REFUSED_..
+ *   below). The tests are made in the order of those numbers, each call only those that it has a use for.
+ * - A refused call changes no buffer, and its other answers are 0.
+ * - Success is the refusal 0, TK_DONE.
+ *
+ * The functions named tk_.._of, at the end, take a tk_tile and buffers of the right length, and are what a program wants
+ * most of the time.
+ *
+ * Link with libtulonkasa.a (x86-64). Works as C99 and as C++. */
+
+#ifndef TULONKASA_H
+#define TULONKASA_H
+
+#include <stddef.h>
+#include <stdint.h>
+
+#ifdef __cplusplus
+extern "C" {
+#endif
+
+/* ---- Sizes ---------------------------------------------------------------------------------------------------------- */
+
+#define TK_BANK_BYTES 4096     /* a bank, and a key */
+#define TK_MAP_BYTES 512       /* a written map or a reach map: address a is bit a % 8 of byte a / 8 */
+#define TK_LANE_MAP_BYTES 32   /* a lane map: slot j is bit j % 8 of byte j / 8 */
+#define TK_PALETTE_BASE 2048   /* where the palette begins in a bank */
+#define TK_LOOKUP_TEXELS 16384 /* the texels of a lookup */
+#define TK_SOURCE_MOST 65536   /* a load's source has at most this many bytes */
+#define TK_SIDE_MOST 1024      /* width and height are at most this */
+#define TK_TEXEL_READS_MOST 4  /* a texel reads at most this many bytes of the bank */
+
+/* ---- Refusals ------------------------------------------------------------------------------------------------------- */
+
+enum {
+    TK_DONE = 0,                 /* not refused */
+    TK_REFUSED_LENGTH = 1,       /* a bank or key is not 4,096 bytes, a written or reach map not 512, a lane map not 32 */
+    TK_REFUSED_TILE = 2,         /* a field of the tile is out of range */
+    TK_REFUSED_MODE_OR_LANE = 3, /* mode or lane is above 3 */
+    TK_REFUSED_LOAD = 4,         /* a number of the load, or the length of its source, is out of range */
+    TK_REFUSED_PAIR = 5,         /* the mode does not accept this pair of format and size */
+    TK_REFUSED_PICTURE = 6,      /* the picture's buffer is shorter than 4 bytes a texel */
+    TK_REFUSED_TRAIL = 7,        /* the trail's buffer is shorter than 2 bytes a read */
+    TK_REFUSED_TORN = 8,         /* the lister program only: its input ends inside a record */
+    TK_REFUSED_UNKNOWN = 9       /* the texel step does not know the pair */
+};
+
+/* ---- Answers -------------------------------------------------------------------------------------------------------- */
+
+/* count: a load's stores, a picture's reads, or a key's kept bytes */
+typedef struct tk_answer {
+    uint32_t refusal;
+    uint32_t count;
+} tk_answer;
+
+/* flag: 1 if the tile calls for a lookup, 0 for a plain picture. width, height: the texels to allocate for it. */
+typedef struct tk_sampling_answer {
+    uint32_t refusal;
+    uint32_t flag;
+    uint32_t width;
+    uint32_t height;
+} tk_sampling_answer;
+
+/* yes: 1 or 0 */
+typedef struct tk_yes_answer {
+    uint32_t refusal;
+    uint32_t yes;
+} tk_yes_answer;
+
+/* ---- A tile and its mode -------------------------------------------------------------------------------------------- */
+
+/* All zero is a tile, so `tk_tile tile = {0};` and then the fields that matter. */
+typedef struct tk_tile {
+    uint32_t fmt;       /* 0..7: format (0 RGBA, 1 YUV, 2 indexed, 3 intensity and alpha, 4 intensity) */
+    uint32_t siz;       /* 0..3: 4, 8, 16 or 32 bits a texel */
+    uint32_t palette;   /* 0..15: which sixteen palette entries a 4-bit index picks from */
+    uint32_t mode;      /* 0..3: 0 and 1 without a palette, 2 a palette of RGBA 5/5/5/1, 3 of intensity and alpha */
+    uint32_t cms;       /* 0..3: across: value 1 mirrors, value 2 clamps */
+    uint32_t cmt;       /* 0..3: down */
+    uint32_t masks;     /* 0..15: across, the tile repeats every 2^masks texels; 0 for no repeating */
+    uint32_t maskt;     /* 0..15: down */
+    uint32_t line;      /* 0..511: words of eight bytes from one row to the next */
+    uint32_t tmem_addr; /* 0..511: the word of eight bytes at which the tile begins */
+    uint32_t width;     /* 0..1,024: texels */
+    uint32_t height;    /* 0..1,024: texels */
+} tk_tile;
+
+/* The twelve numbers of a tile and its mode, as every call below takes them. */
+#define TK_TILE_PARAMETERS                                                                                   \
+    uint32_t fmt, uint32_t siz, uint32_t palette, uint32_t mode, uint32_t cms, uint32_t cmt, uint32_t masks, \
+        uint32_t maskt, uint32_t line, uint32_t tmem_addr, uint32_t width, uint32_t height
+
+/* The same twelve out of a `const tk_tile *`. */
+#define TK_TILE_ARGUMENTS(tile)                                                                                      \
+    (tile)->fmt, (tile)->siz, (tile)->palette, (tile)->mode, (tile)->cms, (tile)->cmt, (tile)->masks, (tile)->maskt, \
+        (tile)->line, (tile)->tmem_addr, (tile)->width, (tile)->height
+
+/* ---- Loads ---------------------------------------------------------------------------------------------------------- */
+
+/* A load stores bytes of the source into the bank and marks each stored address in the written map, which only gains marks.
+ * The source has 0 to 65,536 bytes; past its end it is read as zero. Of the tile a load takes fmt, siz, line and tmem_addr.
+ * image_siz, 0..3, is the size of the image that is loaded from.
+ * Refuses 1 (bank, written), 2, 4. Answers the count of stores. */
+
+/* words: 0..2,048 words of eight bytes in a row. dxt: 0..4,095, added up word by word; each 2,048 begins a new row. */
+tk_answer tk_load_block(uint8_t *bank, size_t bank_length, uint8_t *written, size_t written_length, const uint8_t *source,
+                        size_t source_length, uint32_t fmt, uint32_t siz, uint32_t line, uint32_t tmem_addr,
+                        uint32_t image_siz, uint32_t dxt, uint32_t words);
+
+/* rows: 0..1,024. words: 0..512, of eight bytes, in each row. stride: 0..65,535 source bytes from row to row. */
+tk_answer tk_load_tile(uint8_t *bank, size_t bank_length, uint8_t *written, size_t written_length, const uint8_t *source,
+                       size_t source_length, uint32_t fmt, uint32_t siz, uint32_t line, uint32_t tmem_addr,
+                       uint32_t image_siz, uint32_t rows, uint32_t words, uint32_t stride);
+
+/* A palette: an entry of two bytes is stored four times over, so that it fills a slot of eight. count: 0..1,024 entries a
+ * row. rows: 1..1,024. stride: 0..65,535 source bytes from row to row. One row of an image of size 1 or 3 is taken eight
+ * source bytes at a time, each for eight or two entries, and only the first entry of each is stored. */
+tk_answer tk_load_tlut(uint8_t *bank, size_t bank_length, uint8_t *written, size_t written_length, const uint8_t *source,
+                       size_t source_length, uint32_t fmt, uint32_t siz, uint32_t line, uint32_t tmem_addr,
+                       uint32_t image_siz, uint32_t count, uint32_t rows, uint32_t stride);
+
+/* ---- Which picture -------------------------------------------------------------------------------------------------- */
+
+/* Whether the tile calls for a plain picture or a lookup, and the texels to allocate. Refuses 2, 3. */
+tk_sampling_answer tk_sampling(TK_TILE_PARAMETERS);
+
+/* ---- Pictures ------------------------------------------------------------------------------------------------------- */
+
+/* A picture is four bytes a texel: red, green, blue, alpha, row by row. lane, 0..3, is the lane of each palette slot that is
+ * read in modes 2 and 3. A buffer longer than needed keeps its further bytes.
+ * Refuses 1 (bank), 2, 3, 5, 6, 7 (with a trail), 9. Answers the count of reads: 3 a texel in modes 2 and 3, else 1, 2 or 4.
+ *
+ * The calls named .._observed also write the trail: each address that was read, in order, as two bytes, high byte first. An
+ * odd last byte of its buffer is left unused. */
+
+/* The plain picture: width by height texels. */
+tk_answer tk_sample_tile(const uint8_t *bank, size_t bank_length, TK_TILE_PARAMETERS, uint32_t lane, uint8_t *picture,
+                         size_t picture_length);
+
+tk_answer tk_sample_tile_observed(const uint8_t *bank, size_t bank_length, TK_TILE_PARAMETERS, uint32_t lane,
+                                  uint8_t *picture, size_t picture_length, uint8_t *trail, size_t trail_length);
+
+/* The lookup: 16,384 texels, one for each place of the bank: even rows then odd, even x then odd, place 0 to 4,095. */
+tk_answer tk_sampling_lookup(const uint8_t *bank, size_t bank_length, TK_TILE_PARAMETERS, uint32_t lane, uint8_t *picture,
+                             size_t picture_length);
+
+tk_answer tk_sampling_lookup_observed(const uint8_t *bank, size_t bank_length, TK_TILE_PARAMETERS, uint32_t lane,
+                                      uint8_t *picture, size_t picture_length, uint8_t *trail, size_t trail_length);
+
+/* ---- Reach, loads in reach, lane check ------------------------------------------------------------------------------ */
+
+/* Overwrites the map with a mark for each address that the tile can reach. Answers the refusal: 1 (map), 2, 3. */
+uint32_t tk_reach(TK_TILE_PARAMETERS, uint8_t *map, size_t map_length);
+
+/* Whether the tile can reach an address that the written map marks. Refuses 1 (written), 2, 3. */
+tk_yes_answer tk_tile_has_load(TK_TILE_PARAMETERS, const uint8_t *written, size_t written_length);
+
+/* Overwrites the lane map: slot j, the eight bytes from 2,048 + 8 j, is marked if its four pairs of bytes are not all equal.
+ * Answers the refusal: 1 (bank, map). */
+uint32_t tk_palette_nonreplicated(const uint8_t *bank, size_t bank_length, uint8_t *map, size_t map_length);
+
+/* ---- Keys ----------------------------------------------------------------------------------------------------------- */
+
+/* Overwrites the key: the bank with each byte kept that the picture reads, and all others zero. The picture is the one that
+ * tk_sampling's flag names. Refuses 1 (bank, key), 2, 3, 5, 9. Answers the count of kept bytes. */
+tk_answer tk_key(const uint8_t *bank, size_t bank_length, TK_TILE_PARAMETERS, uint32_t lane, uint8_t *key,
+                 size_t key_length);
+
+/* ---- The same calls on a tk_tile ------------------------------------------------------------------------------------ */
+
+/* Here a bank or key is a pointer to TK_BANK_BYTES, a written or reach map to TK_MAP_BYTES, a lane map to TK_LANE_MAP_BYTES. */
+
+static inline tk_answer tk_load_block_of(uint8_t *bank, uint8_t *written, const uint8_t *source, size_t source_length,
+                                         const tk_tile *tile, uint32_t image_siz, uint32_t dxt, uint32_t words) {
+    return tk_load_block(bank, TK_BANK_BYTES, written, TK_MAP_BYTES, source, source_length, tile->fmt, tile->siz,
+                         tile->line, tile->tmem_addr, image_siz, dxt, words);
+}
+
+static inline tk_answer tk_load_tile_of(uint8_t *bank, uint8_t *written, const uint8_t *source, size_t source_length,
+                                        const tk_tile *tile, uint32_t image_siz, uint32_t rows, uint32_t words,
+                                        uint32_t stride) {
+    return tk_load_tile(bank, TK_BANK_BYTES, written, TK_MAP_BYTES, source, source_length, tile->fmt, tile->siz, tile->line,
+                        tile->tmem_addr, image_siz, rows, words, stride);
+}
+
+static inline tk_answer tk_load_tlut_of(uint8_t *bank, uint8_t *written, const uint8_t *source, size_t source_length,
+                                        const tk_tile *tile, uint32_t image_siz, uint32_t count, uint32_t rows,
+                                        uint32_t stride) {
+    return tk_load_tlut(bank, TK_BANK_BYTES, written, TK_MAP_BYTES, source, source_length, tile->fmt, tile->siz, tile->line,
+                        tile->tmem_addr, image_siz, count, rows, stride);
+}
+
+static inline tk_sampling_answer tk_sampling_of(const tk_tile *tile) { return tk_sampling(TK_TILE_ARGUMENTS(tile)); }
+
+static inline tk_answer tk_sample_tile_of(const uint8_t *bank, const tk_tile *tile, uint32_t lane, uint8_t *picture,
+                                          size_t picture_length) {
+    return tk_sample_tile(bank, TK_BANK_BYTES, TK_TILE_ARGUMENTS(tile), lane, picture, picture_length);
+}
+
+static inline tk_answer tk_sample_tile_observed_of(const uint8_t *bank, const tk_tile *tile, uint32_t lane,
+                                                   uint8_t *picture, size_t picture_length, uint8_t *trail,
+                                                   size_t trail_length) {
+    return tk_sample_tile_observed(bank, TK_BANK_BYTES, TK_TILE_ARGUMENTS(tile), lane, picture, picture_length, trail,
+                                   trail_length);
+}
+
+static inline tk_answer tk_sampling_lookup_of(const uint8_t *bank, const tk_tile *tile, uint32_t lane, uint8_t *picture,
+                                              size_t picture_length) {
+    return tk_sampling_lookup(bank, TK_BANK_BYTES, TK_TILE_ARGUMENTS(tile), lane, picture, picture_length);
+}
+
+static inline tk_answer tk_sampling_lookup_observed_of(const uint8_t *bank, const tk_tile *tile, uint32_t lane,
+                                                       uint8_t *picture, size_t picture_length, uint8_t *trail,
+                                                       size_t trail_length) {
+    return tk_sampling_lookup_observed(bank, TK_BANK_BYTES, TK_TILE_ARGUMENTS(tile), lane, picture, picture_length, trail,
+                                       trail_length);
+}
+
+static inline uint32_t tk_reach_of(const tk_tile *tile, uint8_t *map) {
+    return tk_reach(TK_TILE_ARGUMENTS(tile), map, TK_MAP_BYTES);
+}
+
+static inline tk_yes_answer tk_tile_has_load_of(const tk_tile *tile, const uint8_t *written) {
+    return tk_tile_has_load(TK_TILE_ARGUMENTS(tile), written, TK_MAP_BYTES);
+}
+
+static inline uint32_t tk_palette_nonreplicated_of(const uint8_t *bank, uint8_t *map) {
+    return tk_palette_nonreplicated(bank, TK_BANK_BYTES, map, TK_LANE_MAP_BYTES);
+}
+
+static inline tk_answer tk_key_of(const uint8_t *bank, const tk_tile *tile, uint32_t lane, uint8_t *key) {
+    return tk_key(bank, TK_BANK_BYTES, TK_TILE_ARGUMENTS(tile), lane, key, TK_BANK_BYTES);
+}
+
+/* Whether address a is marked in a map. */
+static inline int tk_is_marked(const uint8_t *map, uint32_t a) { return map[a / 8] >> (a % 8) & 1; }
+
+#ifdef __cplusplus
+}
+#endif
+
+#endif

@@ -1,0 +1,129 @@
+//! One comparison's input: plain numbers, so that a failing one can be printed and made smaller.
+use original::calls::{Load, Picture};
+use original::TileDescriptor;
+use std::fmt;
+use tulonkasa::Tile;
+
+/// What is compared.
+#[derive(Clone, Copy, Debug, PartialEq, Eq)]
+pub enum Call {
+    LoadBlock,
+    LoadTile,
+    LoadTlut,
+    Sampling,
+    Picture { which: Picture, observed: bool },
+    Reach,
+    TileHasLoad,
+    PaletteNonreplicated,
+    Key,
+}
+
+/// What a buffer that is lent to be read holds.
+#[derive(Clone, Copy, Debug, PartialEq, Eq)]
+pub enum Fill {
+    Zero,
+    Rising,
+    Random,
+    /// Random, but each palette slot is four times one pair, save for a few bytes.
+    Palette,
+}
+
+#[derive(Clone, Copy, Debug)]
+pub struct Case {
+    pub call: Call,
+    pub tile: Tile,
+    pub lane: u32,
+    pub image_siz: u32,
+    /// dxt and words; or rows, words and stride; or count, rows and stride. For `TileHasLoad`: the word address, words and
+    /// rows of the tile load that writes before the question.
+    pub numbers: [u32; 3],
+    pub source_length: u32,
+    /// How many bytes longer than needed picture and trail are; -1 for a picture one byte short, -2 for a trail.
+    pub surplus: i32,
+    pub fill: Fill,
+    pub seed: u64,
+}
+
+impl Case {
+    pub fn new(call: Call, tile: Tile) -> Self {
+        Self {
+            call,
+            tile,
+            lane: 0,
+            image_siz: 0,
+            numbers: [0; 3],
+            source_length: 0,
+            surplus: 0,
+            fill: Fill::Random,
+            seed: 1,
+        }
+    }
+
+    /// The load's own numbers as the original takes them.
+    pub fn load(&self) -> Load {
+        let [a, b, c] = self.numbers.map(|number| number as usize);
+        match self.call {
+            Call::LoadBlock => Load::Block { dxt: self.numbers[0], words: b },
+            Call::LoadTlut => Load::Tlut { count: a, rows: b, stride: c },
+            _ => Load::Tile { rows: a, words: b, stride: c },
+        }
+    }
+
+    /// Every number, to be made smaller.
+    pub fn numbers_mut(&mut self) -> Vec<&mut u32> {
+        let Tile { fmt, siz, palette, mode, cms, cmt, masks, maskt, line, tmem_addr, width, height } = &mut self.tile;
+        let mut numbers = vec![
+            width,
+            height,
+            line,
+            tmem_addr,
+            masks,
+            maskt,
+            cms,
+            cmt,
+            palette,
+            mode,
+            fmt,
+            siz,
+            &mut self.lane,
+            &mut self.image_siz,
+            &mut self.source_length,
+        ];
+        numbers.extend(self.numbers.iter_mut());
+        numbers
+    }
+
+    /// How large its numbers are, to print the smallest of several.
+    pub fn size(&self) -> u64 {
+        self.clone().numbers_mut().into_iter().map(|number| u64::from(*number)).sum()
+    }
+}
+
+/// The tile as the original has it. Its numbers are in range.
+pub fn descriptor(tile: &Tile) -> TileDescriptor {
+    TileDescriptor {
+        fmt: tile.fmt as u8,
+        siz: tile.siz as u8,
+        palette: tile.palette as u8,
+        cms: tile.cms as u8,
+        cmt: tile.cmt as u8,
+        masks: tile.masks as u8,
+        maskt: tile.maskt as u8,
+        line: tile.line as u16,
+        tmem_addr: tile.tmem_addr as u16,
+        width: tile.width as u16,
+        height: tile.height as u16,
+        ..TileDescriptor::default()
+    }
+}
+
+impl fmt::Display for Case {
+    fn fmt(&self, f: &mut fmt::Formatter<'_>) -> fmt::Result {
+        let [a, b, c] = self.numbers;
+        writeln!(f, "  call: {:?}", self.call)?;
+        writeln!(f, "  {:?}", self.tile)?;
+        writeln!(f, "  lane: {}, image_siz: {}, numbers: {a}, {b}, {c}", self.lane, self.image_siz)?;
+        writeln!(f, "  source: {} bytes, surplus: {}", self.source_length, self.surplus)?;
+        write!(f, "  bank and source: {:?}, seed {}", self.fill, self.seed)
+    }
+}

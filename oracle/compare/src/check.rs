@@ -1,0 +1,304 @@
+//! One case, done by the original and by the archive: answers, buffers, and bytes that must not have changed.
+use crate::case::{descriptor, Call, Case, Fill};
+use crate::random::Random;
+use original::calls::{self, Bytes, Load, Map, Memory, Picture, Reach};
+use std::ops::AddAssign;
+use tulonkasa::{slices, Refusal, Sampling, Tile, LOOKUP_TEXELS};
+
+/// What a buffer that is lent to be written holds before.
+const BEFORE: u8 = 0xa5;
+
+/// So many bytes behind a lent picture or trail are looked at too.
+const FENCE: usize = 64;
+
+/// The memory's own map, which is slow to read, is compared at one load in so many.
+const OWN_MAP_EVERY: u64 = 16;
+
+/// How much was compared.
+#[derive(Clone, Copy, Default)]
+pub struct Amount {
+    pub calls: u64,
+    pub refused: u64,
+    pub stores: u64,
+    pub texels: u64,
+    pub reads: u64,
+}
+
+impl AddAssign for Amount {
+    fn add_assign(&mut self, other: Self) {
+        self.calls += other.calls;
+        self.refused += other.refused;
+        self.stores += other.stores;
+        self.texels += other.texels;
+        self.reads += other.reads;
+    }
+}
+
+/// The buffers of one worker.
+pub struct Workspace {
+    bank: Box<Bytes>,
+    source: Vec<u8>,
+    picture: Vec<u8>,
+    trail: Vec<u8>,
+    expected_trail: Vec<u8>,
+    reach: Reach,
+    loads: u64,
+}
+
+impl Default for Workspace {
+    fn default() -> Self {
+        Self {
+            bank: Box::new([0; 4096]),
+            source: vec![0; 65536],
+            picture: vec![BEFORE; (4 << 20) + 2 * FENCE],
+            trail: vec![BEFORE; (8 << 20) + 2 * FENCE],
+            expected_trail: Vec::new(),
+            reach: Reach::default(),
+            loads: 0,
+        }
+    }
+}
+
+impl Workspace {
+    /// Compares; an error says where the two differ.
+    pub fn check(&mut self, case: &Case) -> Result<Amount, String> {
+        fill(&mut self.bank[..], case.fill, case.seed);
+        let bank = self.bank.clone();
+        let amount = match case.call {
+            Call::LoadBlock | Call::LoadTile | Call::LoadTlut => self.load(case),
+            Call::Sampling => sampling(case),
+            Call::Picture { which, observed } => self.picture(case, which, observed),
+            Call::Reach => self.reach(case),
+            Call::TileHasLoad => has_load(case),
+            Call::PaletteNonreplicated => lanes(&bank),
+            Call::Key => key(&self.bank, case),
+        }?;
+        same("the bank that was lent to be read", &bank[..], &self.bank[..])?;
+        Ok(Amount { calls: 1, ..amount })
+    }
+
+    fn load(&mut self, case: &Case) -> Result<Amount, String> {
+        let source = &mut self.source[..case.source_length as usize];
+        fill(source, case.fill, case.seed + 1);
+        let mut before = [0; 512];
+        fill(&mut before, case.fill, case.seed + 2);
+        let (mut bank, mut written) = (self.bank.clone(), before);
+        let answer = archive_load(&mut bank[..], &mut written, source, case);
+
+        let mut memory = Memory::new(&self.bank);
+        let untouched = source.to_vec();
+        let image_siz = case.image_siz as u8;
+        let (stores, marks) = memory.load_counted(&untouched, &descriptor(&case.tile), image_siz, case.load());
+        same_answer(Ok(stores), answer)?;
+        same("the bank", &memory.bytes()[..], &bank[..])?;
+        for (before, mark) in before.iter_mut().zip(marks) {
+            *before |= mark;
+        }
+        same("the written map", &before, &written)?;
+        same("the source", &untouched, source)?;
+        self.loads += 1;
+        if self.loads.is_multiple_of(OWN_MAP_EVERY) {
+            same("the original's own map and the addresses that it stored to", &memory.written(), &marks)?;
+        }
+        Ok(Amount { stores: stores.into(), ..Amount::default() })
+    }
+
+    fn picture(&mut self, case: &Case, which: Picture, observed: bool) -> Result<Amount, String> {
+        let expected = self.original_picture(case, which, observed);
+        let texels = match which {
+            Picture::Plain => (case.tile.width * case.tile.height) as usize,
+            Picture::Lookup => LOOKUP_TEXELS,
+        };
+        let picture_length = lent(4 * texels, case.surplus, -1);
+        let trail_length = lent(self.expected_trail.len(), case.surplus, -2);
+        let answered = match &expected {
+            None => Err(Refusal::Pair),
+            Some(_) if picture_length < 4 * texels => Err(Refusal::Picture),
+            Some(_) if trail_length < self.expected_trail.len() => Err(Refusal::Trail),
+            Some((_, reads)) => Ok(*reads),
+        };
+
+        self.picture[..picture_length + FENCE].fill(BEFORE);
+        self.trail[..trail_length + FENCE].fill(BEFORE);
+        same_answer(answered, self.archive_picture(case, which, observed, picture_length, trail_length))?;
+        let (made, told) = match (&expected, answered) {
+            (Some((picture, _)), Ok(_)) => (&picture[..], &self.expected_trail[..]),
+            _ => (&[][..], &[][..]),
+        };
+        same_front("the picture", made, &self.picture[..picture_length + FENCE])?;
+        same_front("the trail", told, &self.trail[..trail_length + FENCE])?;
+        let refused = answered.is_err().into();
+        let reads = answered.unwrap_or(0).into();
+        Ok(Amount { texels: made.len() as u64 / 4, reads, refused, ..Amount::default() })
+    }
+
+    /// The original's picture and its count of reads. Its trail, if asked for, is left in `expected_trail`.
+    fn original_picture(&mut self, case: &Case, which: Picture, observed: bool) -> Option<(Vec<u8>, u32)> {
+        let (tile, mode, lane) = (descriptor(&case.tile), case.tile.mode as u8, case.lane as usize);
+        let trail = &mut self.expected_trail;
+        trail.clear();
+        if !observed {
+            return calls::picture_counted(&self.bank, &tile, mode, lane, which);
+        }
+        let picture = calls::picture_observed(&self.bank, &tile, mode, lane, which, trail)?;
+        Some((picture, (trail.len() / 2) as u32))
+    }
+
+    fn archive_picture(
+        &mut self,
+        case: &Case,
+        which: Picture,
+        observed: bool,
+        picture_length: usize,
+        trail_length: usize,
+    ) -> Result<u32, Refusal> {
+        let (bank, tile, lane) = (&self.bank[..], &case.tile, case.lane);
+        let (picture, trail) = (&mut self.picture[..picture_length], &mut self.trail[..trail_length]);
+        match (which, observed) {
+            (Picture::Plain, false) => slices::sample_tile(bank, tile, lane, picture),
+            (Picture::Plain, true) => slices::sample_tile_observed(bank, tile, lane, picture, trail),
+            (Picture::Lookup, false) => slices::sampling_lookup(bank, tile, lane, picture),
+            (Picture::Lookup, true) => slices::sampling_lookup_observed(bank, tile, lane, picture, trail),
+        }
+    }
+
+    fn reach(&self, case: &Case) -> Result<Amount, String> {
+        let expected = self.reach.of(&descriptor(&case.tile), case.tile.mode as u8);
+        let mut map = [BEFORE; 512];
+        same_answer(Ok(()), slices::reach(&case.tile, &mut map))?;
+        same("the reach map", &expected, &map)?;
+        has_load_of_reach(case, &expected)?;
+        Ok(Amount::default())
+    }
+}
+
+/// The archive's load.
+fn archive_load(bank: &mut [u8], written: &mut [u8], source: &[u8], case: &Case) -> Result<u32, Refusal> {
+    let [a, b, c] = case.numbers;
+    match case.call {
+        Call::LoadBlock => slices::load_block(bank, written, source, &case.tile, case.image_siz, a, b),
+        Call::LoadTlut => slices::load_tlut(bank, written, source, &case.tile, case.image_siz, a, b, c),
+        _ => slices::load_tile(bank, written, source, &case.tile, case.image_siz, a, b, c),
+    }
+}
+
+fn sampling(case: &Case) -> Result<Amount, String> {
+    let (flag, [width, height]) = calls::sampling(&descriptor(&case.tile), case.tile.mode as u8);
+    same_answer(Ok(Sampling { lookup: flag == 1, width, height }), slices::sampling(&case.tile))?;
+    Ok(Amount::default())
+}
+
+/// The original's question, after a tile load in a fresh memory.
+fn has_load(case: &Case) -> Result<Amount, String> {
+    let [tmem_addr, words, rows] = case.numbers;
+    let loaded = Tile { tmem_addr, ..case.tile };
+    let (mut bank, mut written) = ([0; 4096], [0; 512]);
+    let answer = slices::load_tile(&mut bank, &mut written, &[], &loaded, case.image_siz, rows, words, 8);
+    same_answer(Ok(8 * rows * words), answer)?;
+
+    let mut memory = Memory::new(&bank);
+    let load = Load::Tile { rows: rows as usize, words: words as usize, stride: 8 };
+    memory.load(&[], &descriptor(&loaded), case.image_siz as u8, load);
+    let yes = memory.tile_has_load(&descriptor(&case.tile), case.tile.mode as u8);
+    same_answer(Ok(yes), slices::tile_has_load(&case.tile, &written))?;
+    Ok(Amount::default())
+}
+
+/// The archive's question against the original's reach, for maps that no load leaves: all but the reach, one address of it,
+/// and a few random ones.
+fn has_load_of_reach(case: &Case, reach: &Map) -> Result<(), String> {
+    let ask = |map: &Map| {
+        let meets = reach.iter().zip(map).any(|(a, b)| a & b != 0);
+        same_answer(Ok(meets), slices::tile_has_load(&case.tile, map))
+    };
+    ask(&reach.map(|byte| !byte))?;
+    ask(&[0; 512])?;
+    let mut random = Random::new(case.seed);
+    let marked = |address: usize| reach[address / 8] >> (address % 8) & 1 == 1;
+    let first = (0..4096).find(|&address| marked(address));
+    let last = (0..4096).rev().find(|&address| marked(address));
+    for address in [first, last, Some(random.to(4095) as usize), Some(random.to(4095) as usize)].into_iter().flatten() {
+        let mut map = [0; 512];
+        map[address / 8] = 1 << (address % 8);
+        ask(&map)?;
+    }
+    Ok(())
+}
+
+fn lanes(bank: &Bytes) -> Result<Amount, String> {
+    let mut map = [BEFORE; 32];
+    same_answer(Ok(()), slices::palette_nonreplicated(bank, &mut map))?;
+    same("the lane map", &calls::palette_nonreplicated(bank), &map)?;
+    Ok(Amount::default())
+}
+
+fn key(bank: &Bytes, case: &Case) -> Result<Amount, String> {
+    let mut key = [BEFORE; 4096];
+    let answer = slices::key(bank, &case.tile, case.lane, &mut key);
+    let expected = calls::key(bank, &descriptor(&case.tile), case.tile.mode as u8, case.lane as usize);
+    same_answer(expected.map(|(_, kept)| kept).ok_or(Refusal::Pair), answer)?;
+    let refused = expected.is_none().into();
+    same("the key", &expected.map_or([BEFORE; 4096], |(key, _)| key), &key)?;
+    Ok(Amount { refused, ..Amount::default() })
+}
+
+/// A needed length with a surplus, or one byte short.
+fn lent(needed: usize, surplus: i32, short: i32) -> usize {
+    match surplus {
+        0.. => needed + surplus as usize,
+        _ if surplus == short => needed.saturating_sub(1),
+        _ => needed,
+    }
+}
+
+fn fill(bytes: &mut [u8], fill: Fill, seed: u64) {
+    let mut random = Random::new(seed);
+    match fill {
+        Fill::Zero => bytes.fill(0),
+        Fill::Rising => bytes.iter_mut().enumerate().for_each(|(i, byte)| *byte = i as u8),
+        Fill::Random => random.fill(bytes),
+        Fill::Palette => {
+            random.fill(bytes);
+            for slot in bytes.chunks_exact_mut(8) {
+                slot.copy_within(..2, 2);
+                slot.copy_within(..4, 4);
+            }
+            for _ in 0..random.to(4) {
+                if let Some(most) = bytes.len().checked_sub(1) {
+                    bytes[random.to(most as u32) as usize] ^= 1 << random.to(7);
+                }
+            }
+        }
+    }
+}
+
+fn same_answer<T: PartialEq + std::fmt::Debug>(
+    original: Result<T, Refusal>,
+    archive: Result<T, Refusal>,
+) -> Result<(), String> {
+    if original == archive {
+        return Ok(());
+    }
+    Err(format!("the original asks for {original:?}, the archive answers {archive:?}"))
+}
+
+fn same(what: &str, original: &[u8], archive: &[u8]) -> Result<(), String> {
+    if original == archive {
+        return Ok(());
+    }
+    let place = original.iter().zip(archive).position(|(a, b)| a != b);
+    Err(match place {
+        Some(i) => format!("{what}, byte {i}: the original has {}, the archive {}", original[i], archive[i]),
+        None => format!("{what}: the original has {} bytes, the archive {}", original.len(), archive.len()),
+    })
+}
+
+/// The front of what was lent is the original's, and the rest is as before.
+fn same_front(what: &str, original: &[u8], lent: &[u8]) -> Result<(), String> {
+    let (front, rest) = lent.split_at(original.len());
+    same(what, original, front)?;
+    match rest.iter().position(|&byte| byte != BEFORE) {
+        None => Ok(()),
+        Some(i) => Err(format!("{what}, byte {}: it must not change, and is {}", original.len() + i, rest[i])),
+    }
+}

@@ -1,0 +1,203 @@
+//! The original's calls that are compared, each by its own function, on plain numbers and bytes.
+use crate::hle::framebuffer_load::{FramebufferCopy, Tag, Tags};
+use crate::hle::tile_sampling::TileSampling;
+use crate::hle::tmem::{BankDecoder, Tmem};
+use crate::profiling;
+use crate::TileDescriptor;
+use std::sync::Arc;
+
+/// The bytes of a bank.
+pub type Bytes = [u8; 4096];
+
+/// A bit for each address of a bank.
+pub type Map = [u8; 512];
+
+/// What is loaded, besides the tile and the source.
+#[derive(Clone, Copy, Debug)]
+pub enum Load {
+    Block { dxt: u32, words: usize },
+    Tile { rows: usize, words: usize, stride: usize },
+    Tlut { count: usize, rows: usize, stride: usize },
+}
+
+/// The original's texture memory.
+pub struct Memory {
+    tmem: Tmem,
+}
+
+impl Memory {
+    /// Memory of these bytes, none written.
+    pub fn new(bank: &Bytes) -> Self {
+        Self { tmem: Tmem::from_profile(&profiling::Bank { bytes: bank.to_vec() }) }
+    }
+
+    /// Its bytes. A load that follows copies them first if this is still held.
+    pub fn bytes(&self) -> Arc<Bytes> {
+        self.tmem.share_bank()
+    }
+
+    /// A load.
+    pub fn load(&mut self, source: &[u8], tile: &TileDescriptor, image_siz: u8, load: Load) {
+        self.tmem.load(source, tile, image_siz, load);
+    }
+
+    /// A load, with the count of its stores and a mark at each address that it stored to.
+    pub fn load_counted(&mut self, source: &[u8], tile: &TileDescriptor, image_siz: u8, load: Load) -> (u32, Map) {
+        let copy = Arc::new(FramebufferCopy::default());
+        self.tmem.framebuffer_tags = None;
+        self.tmem.copy_load(copy.clone(), |tmem| tmem.load(source, tile, image_siz, load));
+        let tags = self.tmem.framebuffer_tags.take().unwrap_or_default();
+        (copy.stores.get(), tagged(&tags))
+    }
+
+    /// The map of written addresses, which is the memory's own and is read from how it prints itself.
+    pub fn written(&self) -> Map {
+        let text = format!("{:?}", self.tmem);
+        let words = text
+            .split_once("written: [")
+            .and_then(|(_, rest)| rest.split_once(']'))
+            .map(|(words, _)| words.split(", "))
+            .expect("the memory prints its written map");
+        map_of(&words.map(|word| word.parse().expect("a number")).collect::<Vec<_>>())
+    }
+
+    /// Whether the tile reaches a written address.
+    pub fn tile_has_load(&self, tile: &TileDescriptor, mode: u8) -> bool {
+        self.tmem.tile_has_load(tile, mode)
+    }
+}
+
+impl Tmem {
+    fn load(&mut self, source: &[u8], tile: &TileDescriptor, image_siz: u8, load: Load) {
+        match load {
+            Load::Block { dxt, words } => self.write_block_for_tile(source, tile, dxt, words, image_siz),
+            Load::Tile { rows, words, stride } => self.write_tile_for_tile(source, tile, rows, words, stride, image_siz),
+            Load::Tlut { count, rows, stride } => self.write_tlut_for_tile(source, tile, count, rows, stride, image_siz),
+        }
+    }
+}
+
+/// The original's reach: it walks it to find which tagged bytes a tile sees. Here every byte is tagged.
+pub struct Reach {
+    tmem: Tmem,
+}
+
+impl Default for Reach {
+    fn default() -> Self {
+        let tags = Tags {
+            bytes: Box::new([Tag { copy: 1, pointer: 0 }; 4096]),
+            copies: vec![Arc::new(FramebufferCopy::default())],
+        };
+        let mut tmem = Tmem::default();
+        tmem.framebuffer_tags = Some(tags);
+        Self { tmem }
+    }
+}
+
+impl Reach {
+    /// A mark at each address that the tile reaches. In modes 2 and 3 that is in the lower half alone, and what the original
+    /// sees of the palette besides is left out.
+    pub fn of(&self, tile: &TileDescriptor, mode: u8) -> Map {
+        let mut map = tagged(&self.tmem.framebuffer_tags_for(tile, mode));
+        if mode >= 2 {
+            map[256..].fill(0);
+        }
+        map
+    }
+}
+
+/// The sampling flag, and the allocation extent.
+pub fn sampling(tile: &TileDescriptor, mode: u8) -> (u32, [u32; 2]) {
+    let sampling = TileSampling::from_tile(tile, mode);
+    (sampling.image[2], sampling.allocation_extent())
+}
+
+/// The palette slots that are not four times the same pair.
+pub fn palette_nonreplicated(bank: &Bytes) -> [u8; 32] {
+    map_of(&Tmem::palette_nonreplicated_bytes(bank))
+}
+
+/// Which picture is asked for.
+#[derive(Clone, Copy, Debug, PartialEq, Eq)]
+pub enum Picture {
+    Plain,
+    Lookup,
+}
+
+/// A picture, or none where the original does not accept the pair.
+pub fn picture(bank: &Bytes, tile: &TileDescriptor, mode: u8, lane: usize, which: Picture) -> Option<Vec<u8>> {
+    decode(bank, tile, mode, lane, which, |_| {})
+}
+
+/// A picture, with the addresses that were read appended to the trail as two bytes each, high byte first.
+pub fn picture_observed(
+    bank: &Bytes,
+    tile: &TileDescriptor,
+    mode: u8,
+    lane: usize,
+    which: Picture,
+    trail: &mut Vec<u8>,
+) -> Option<Vec<u8>> {
+    decode(bank, tile, mode, lane, which, |address| trail.extend_from_slice(&(address as u16).to_be_bytes()))
+}
+
+/// A picture, with the count of reads.
+pub fn picture_counted(
+    bank: &Bytes,
+    tile: &TileDescriptor,
+    mode: u8,
+    lane: usize,
+    which: Picture,
+) -> Option<(Vec<u8>, u32)> {
+    let mut reads = 0;
+    let picture = decode(bank, tile, mode, lane, which, |_| reads += 1)?;
+    Some((picture, reads))
+}
+
+/// The key, which the original has no call for: the bytes that the picture reads which the flag calls for, and how many they
+/// are.
+pub fn key(bank: &Bytes, tile: &TileDescriptor, mode: u8, lane: usize) -> Option<(Bytes, u32)> {
+    let which = if sampling(tile, mode).0 == 1 { Picture::Lookup } else { Picture::Plain };
+    let mut read = [false; 4096];
+    decode(bank, tile, mode, lane, which, |address| read[address] = true)?;
+    let mut key = [0; 4096];
+    let mut kept = 0;
+    for (address, _) in read.iter().enumerate().filter(|(_, read)| **read) {
+        key[address] = bank[address];
+        kept += 1;
+    }
+    Some((key, kept))
+}
+
+fn decode(
+    bank: &Bytes,
+    tile: &TileDescriptor,
+    mode: u8,
+    lane: usize,
+    which: Picture,
+    mut reads: impl FnMut(usize),
+) -> Option<Vec<u8>> {
+    let decoder = BankDecoder::new(bank);
+    match which {
+        Picture::Plain => decoder.sample_tile_lane(tile, mode, lane, &mut reads).ok(),
+        Picture::Lookup => decoder.sampling_lookup_lane(tile, mode, lane, &mut reads).ok(),
+    }
+}
+
+/// A mark at each tagged address.
+fn tagged(tags: &Tags) -> Map {
+    let mut map = [0; 512];
+    for (address, _) in tags.bytes.iter().enumerate().filter(|(_, tag)| tag.copy != 0) {
+        map[address / 8] |= 1 << (address % 8);
+    }
+    map
+}
+
+/// The same bits in bytes.
+fn map_of<const N: usize>(words: &[u64]) -> [u8; N] {
+    let mut map = [0; N];
+    for (bytes, word) in map.chunks_exact_mut(8).zip(words) {
+        bytes.copy_from_slice(&word.to_le_bytes());
+    }
+    map
+}

@@ -1,0 +1,454 @@
+/* Rough handling: every entry, called with numbers of the full range and buffers of any length.
+ *
+ *     rough SECONDS SEED [CALLS]      until the time is up, or for so many calls
+ *
+ * Each buffer lies against a page that cannot be touched, at its end or at its start, so that the archive cannot reach
+ * outside it unseen. After each call its refusal is held against document 01's table, worked out here on its own, its other
+ * answers against 0 where it refused, and every byte that must not have changed against a copy. */
+
+#include <stdbool.h>
+#include <stdio.h>
+#include <stdlib.h>
+#include <string.h>
+#include <sys/mman.h>
+#include <time.h>
+#include <unistd.h>
+
+#include "tulonkasa.h"
+
+/* ---- Random numbers ------------------------------------------------------------------------------------------------- */
+
+static uint64_t state;
+
+static uint64_t random64(void) {
+    uint64_t z = state += 0x9e3779b97f4a7c15u;
+    z = (z ^ (z >> 30)) * 0xbf58476d1ce4e5b9u;
+    z = (z ^ (z >> 27)) * 0x94d049bb133111ebu;
+    return z ^ (z >> 31);
+}
+
+static uint32_t up_to(uint32_t most) { return (uint32_t)(random64() % ((uint64_t)most + 1)); }
+
+static bool one_in(uint32_t n) { return up_to(n - 1) == 0; }
+
+/* Any number of 32 bits, small ones as often as large ones. */
+static uint32_t any_number(void) { return (uint32_t)random64() >> up_to(31); }
+
+/* ---- Buffers -------------------------------------------------------------------------------------------------------- */
+
+/* Memory between two pages that cannot be touched, and a copy of what it must hold. A part of it is lent. */
+typedef struct buffer {
+    uint8_t *memory, *copy;
+    size_t room;
+    uint8_t *lent;
+    size_t length;
+} buffer;
+
+enum { BANK, WRITTEN, SOURCE, PICTURE, TRAIL, MAP, LANES, KEY, BUFFERS };
+
+static buffer buffers[BUFFERS];
+static const char *const buffer_names[BUFFERS] = {"bank",  "written map", "source",   "picture",
+                                                  "trail", "reach map",   "lane map", "key"};
+
+/* The right lengths of bank, written map, reach map, lane map and key; the most for the others. */
+static const size_t right_length[BUFFERS] = {
+    TK_BANK_BYTES, TK_MAP_BYTES,      TK_SOURCE_MOST, 4 * TK_SIDE_MOST *TK_SIDE_MOST, 8 * TK_SIDE_MOST *TK_SIDE_MOST,
+    TK_MAP_BYTES,  TK_LANE_MAP_BYTES, TK_BANK_BYTES};
+
+static void make_buffer(buffer *b, size_t least) {
+    size_t page = (size_t)sysconf(_SC_PAGESIZE);
+    b->room = (least + 2 * page - 1) / page * page;
+    uint8_t *all = mmap(NULL, b->room + 2 * page, PROT_READ | PROT_WRITE, MAP_PRIVATE | MAP_ANONYMOUS, -1, 0);
+    b->copy = malloc(b->room);
+    if (all == MAP_FAILED || b->copy == NULL) {
+        fprintf(stderr, "rough: no memory\n");
+        exit(2);
+    }
+    mprotect(all, page, PROT_NONE);
+    mprotect(all + page + b->room, page, PROT_NONE);
+    b->memory = all + page;
+    for (size_t i = 0; i < b->room; i++) b->memory[i] = (uint8_t)random64();
+    memcpy(b->copy, b->memory, b->room);
+}
+
+/* Lends a part of a length, against the page behind it or the page before it. An empty one is null half of the time. */
+static void lend(buffer *b, size_t length) {
+    b->length = length < b->room ? length : b->room;
+    b->lent = one_in(2) ? b->memory : b->memory + b->room - b->length;
+    if (b->length == 0 && one_in(2)) b->lent = NULL;
+}
+
+/* ---- A call --------------------------------------------------------------------------------------------------------- */
+
+enum {
+    LOAD_BLOCK,
+    LOAD_TILE,
+    LOAD_TLUT,
+    SAMPLING,
+    SAMPLE_TILE,
+    SAMPLE_TILE_OBSERVED,
+    SAMPLING_LOOKUP,
+    SAMPLING_LOOKUP_OBSERVED,
+    REACH,
+    TILE_HAS_LOAD,
+    PALETTE_NONREPLICATED,
+    CUT_KEY,
+    ENTRIES
+};
+
+static const char *const entry_names[ENTRIES] = {"tk_load_block",
+                                                 "tk_load_tile",
+                                                 "tk_load_tlut",
+                                                 "tk_sampling",
+                                                 "tk_sample_tile",
+                                                 "tk_sample_tile_observed",
+                                                 "tk_sampling_lookup",
+                                                 "tk_sampling_lookup_observed",
+                                                 "tk_reach",
+                                                 "tk_tile_has_load",
+                                                 "tk_palette_nonreplicated",
+                                                 "tk_key"};
+
+/* What an entry takes, and so what it can refuse. */
+enum {
+    TAKES_LOAD_FIELDS = 1,
+    TAKES_TILE = 2,
+    TAKES_LANE = 4,
+    TAKES_LOAD = 8,
+    TAKES_PAIR = 16,
+    TAKES_PICTURE = 32,
+    TAKES_TRAIL = 64
+};
+
+static const struct {
+    unsigned takes;
+    unsigned read, written; /* buffers, by bits */
+} entries[ENTRIES] = {
+    [LOAD_BLOCK] = {TAKES_LOAD_FIELDS | TAKES_LOAD, 1 << SOURCE, 1 << BANK | 1 << WRITTEN},
+    [LOAD_TILE] = {TAKES_LOAD_FIELDS | TAKES_LOAD, 1 << SOURCE, 1 << BANK | 1 << WRITTEN},
+    [LOAD_TLUT] = {TAKES_LOAD_FIELDS | TAKES_LOAD, 1 << SOURCE, 1 << BANK | 1 << WRITTEN},
+    [SAMPLING] = {TAKES_TILE, 0, 0},
+    [SAMPLE_TILE] = {TAKES_TILE | TAKES_LANE | TAKES_PAIR | TAKES_PICTURE, 1 << BANK, 1 << PICTURE},
+    [SAMPLE_TILE_OBSERVED] = {TAKES_TILE | TAKES_LANE | TAKES_PAIR | TAKES_PICTURE | TAKES_TRAIL, 1 << BANK,
+                              1 << PICTURE | 1 << TRAIL},
+    [SAMPLING_LOOKUP] = {TAKES_TILE | TAKES_LANE | TAKES_PAIR | TAKES_PICTURE, 1 << BANK, 1 << PICTURE},
+    [SAMPLING_LOOKUP_OBSERVED] = {TAKES_TILE | TAKES_LANE | TAKES_PAIR | TAKES_PICTURE | TAKES_TRAIL, 1 << BANK,
+                                  1 << PICTURE | 1 << TRAIL},
+    [REACH] = {TAKES_TILE, 0, 1 << MAP},
+    [TILE_HAS_LOAD] = {TAKES_TILE, 1 << WRITTEN, 0},
+    [PALETTE_NONREPLICATED] = {0, 1 << BANK, 1 << LANES},
+    [CUT_KEY] = {TAKES_TILE | TAKES_LANE | TAKES_PAIR, 1 << BANK, 1 << KEY},
+};
+
+static struct {
+    int entry;
+    tk_tile tile;
+    uint32_t lane, image_siz, numbers[3]; /* dxt, words; or rows, words, stride; or count, rows, stride */
+} now;
+
+/* What was answered. Entries with fewer numbers leave the rest 0. */
+static struct { uint32_t refusal, numbers[3]; } answer;
+
+static void print_call(void) {
+    const tk_tile *t = &now.tile;
+    fprintf(
+        stderr,
+        "  %s: fmt %u siz %u palette %u mode %u cms %u cmt %u masks %u maskt %u line %u tmem_addr %u width %u height %u\n",
+        entry_names[now.entry], t->fmt, t->siz, t->palette, t->mode, t->cms, t->cmt, t->masks, t->maskt, t->line,
+        t->tmem_addr, t->width, t->height);
+    fprintf(stderr, "  lane %u image_siz %u numbers %u %u %u\n", now.lane, now.image_siz, now.numbers[0], now.numbers[1],
+            now.numbers[2]);
+    for (int i = 0; i < BUFFERS; i++) {
+        if ((entries[now.entry].read | entries[now.entry].written) >> i & 1) {
+            fprintf(stderr, "  %s: %zu bytes%s\n", buffer_names[i], buffers[i].length,
+                    buffers[i].lent == NULL ? ", null" : "");
+        }
+    }
+}
+
+static void fail(const char *what) {
+    fprintf(stderr, "rough: %s (refusal %u, numbers %u %u %u)\n", what, answer.refusal, answer.numbers[0],
+            answer.numbers[1], answer.numbers[2]);
+    print_call();
+    _exit(1);
+}
+
+/* ---- Document 01's table, worked out here --------------------------------------------------------------------------- */
+
+static uint64_t texels(void) {
+    bool lookup = now.entry == SAMPLING_LOOKUP || now.entry == SAMPLING_LOOKUP_OBSERVED;
+    return lookup ? TK_LOOKUP_TEXELS : (uint64_t)now.tile.width * now.tile.height;
+}
+
+/* Reads a texel in modes 0 and 1, by format and size; 0 for a pair that is not accepted. */
+static const uint8_t direct_reads[8][4] = {{0, 0, 2, 4}, {0}, {1, 1, 2, 2}, {1, 1, 2, 0}, {1, 1, 0, 0}, {0}, {0}, {0}};
+
+static uint32_t reads_each(void) { return now.tile.mode >= 2 ? 3 : direct_reads[now.tile.fmt][now.tile.siz]; }
+
+static bool wrong_length(void) {
+    unsigned lent = entries[now.entry].read | entries[now.entry].written;
+    static const int exact[] = {BANK, WRITTEN, MAP, LANES, KEY};
+    for (size_t i = 0; i < sizeof exact / sizeof *exact; i++) {
+        if ((lent >> exact[i] & 1) && buffers[exact[i]].length != right_length[exact[i]]) return true;
+    }
+    return false;
+}
+
+static bool load_fields_outside(void) {
+    return now.tile.fmt > 7 || now.tile.siz > 3 || now.tile.line > 511 || now.tile.tmem_addr > 511;
+}
+
+static bool tile_outside(void) {
+    const tk_tile *t = &now.tile;
+    return load_fields_outside() || t->palette > 15 || t->cms > 3 || t->cmt > 3 || t->masks > 15 || t->maskt > 15 ||
+           t->width > 1024 || t->height > 1024;
+}
+
+static bool load_outside(void) {
+    const uint32_t *n = now.numbers;
+    if (now.image_siz > 3 || buffers[SOURCE].length > 65536) return true;
+    if (now.entry == LOAD_BLOCK) return n[0] > 4095 || n[1] > 2048;
+    if (now.entry == LOAD_TILE) return n[0] > 1024 || n[1] > 512 || n[2] > 65535;
+    return n[0] > 1024 || n[1] < 1 || n[1] > 1024 || n[2] > 65535;
+}
+
+static uint32_t expected_refusal(void) {
+    unsigned takes = entries[now.entry].takes;
+    if (wrong_length()) return 1;
+    if ((takes & TAKES_LOAD_FIELDS) && load_fields_outside()) return 2;
+    if ((takes & TAKES_TILE) && tile_outside()) return 2;
+    if ((takes & TAKES_TILE) && now.tile.mode > 3) return 3;
+    if ((takes & TAKES_LANE) && now.lane > 3) return 3;
+    if ((takes & TAKES_LOAD) && load_outside()) return 4;
+    if ((takes & TAKES_PAIR) && reads_each() == 0) return 5;
+    if ((takes & TAKES_PICTURE) && buffers[PICTURE].length < 4 * texels()) return 6;
+    if ((takes & TAKES_TRAIL) && buffers[TRAIL].length / 2 < reads_each() * texels()) return 7;
+    return 0;
+}
+
+/* ---- Making a call -------------------------------------------------------------------------------------------------- */
+
+/* A length: mostly the right one, else beside it, or any up to the room. */
+static size_t some_length(int i, size_t right) {
+    if (!one_in(16)) return right;
+    switch (up_to(4)) {
+        case 0: return 0;
+        case 1: return right == 0 ? 1 : right - 1;
+        case 2: return right + 1;
+        default: return up_to((uint32_t)buffers[i].room);
+    }
+}
+
+static void choose_tile(void) {
+    static const uint32_t most[12] = {7, 3, 15, 3, 3, 3, 15, 15, 511, 511, 40, 40};
+    uint32_t numbers[12];
+    for (int i = 0; i < 12; i++) numbers[i] = one_in(8) ? most[i] : up_to(most[i]);
+    if (one_in(64)) numbers[10] = up_to(1024);
+    if (one_in(64)) numbers[11] = up_to(1024);
+    memcpy(&now.tile, numbers, sizeof numbers);
+}
+
+static void choose_load(void) {
+    now.image_siz = up_to(3);
+    bool many = one_in(64);
+    switch (now.entry) {
+        case LOAD_BLOCK:
+            now.numbers[0] = up_to(4095);
+            now.numbers[1] = up_to(many ? 2048 : 40);
+            break;
+        case LOAD_TILE:
+            now.numbers[0] = up_to(many ? 200 : 8);
+            now.numbers[1] = up_to(many ? 100 : 8);
+            now.numbers[2] = up_to(65535);
+            break;
+        default:
+            now.numbers[0] = up_to(many ? 1024 : 40);
+            now.numbers[1] = one_in(2) ? 1 : 1 + up_to(many ? 40 : 3);
+            now.numbers[2] = up_to(65535);
+    }
+}
+
+/* Puts one number outside its range, or anywhere. */
+static void break_one(void) {
+    static const uint32_t most[17] = {7, 3, 15, 3, 3, 3, 15, 15, 511, 511, 1024, 1024, 3, 3, 4095, 2048, 65535};
+    uint32_t *numbers[17] = {&now.tile.fmt,   &now.tile.siz,    &now.tile.palette, &now.tile.mode, &now.tile.cms,
+                             &now.tile.cmt,   &now.tile.masks,  &now.tile.maskt,   &now.tile.line, &now.tile.tmem_addr,
+                             &now.tile.width, &now.tile.height, &now.lane,         &now.image_siz, &now.numbers[0],
+                             &now.numbers[1], &now.numbers[2]};
+    uint32_t i = up_to(16);
+    switch (up_to(3)) {
+        case 0: *numbers[i] = most[i] + 1; break;
+        case 1: *numbers[i] = UINT32_MAX; break;
+        case 2: *numbers[i] = 0; break;
+        default: *numbers[i] = any_number();
+    }
+}
+
+static void break_all(void) {
+    uint32_t numbers[12];
+    for (int i = 0; i < 12; i++) numbers[i] = any_number();
+    memcpy(&now.tile, numbers, sizeof numbers);
+    now.lane = any_number();
+    now.image_siz = any_number();
+    for (int i = 0; i < 3; i++) now.numbers[i] = any_number();
+}
+
+/* Lends every buffer that the entry takes. Picture and trail get what the tile needs as far as there is room, or more. */
+static void choose_lengths(void) {
+    unsigned lent = entries[now.entry].read | entries[now.entry].written;
+    uint64_t count = texels() <= TK_SIDE_MOST * TK_SIDE_MOST ? texels() : 16;
+    uint32_t each = now.tile.fmt < 8 && now.tile.siz < 4 ? reads_each() : 1;
+    for (int i = 0; i < BUFFERS; i++) {
+        if (!(lent >> i & 1)) continue;
+        size_t right = right_length[i];
+        if (i == SOURCE) right = one_in(16) ? right : up_to(600);
+        if (i == PICTURE) right = (size_t)(4 * count + (one_in(4) ? up_to(100) : 0));
+        if (i == TRAIL) right = (size_t)(2 * each * count + (one_in(4) ? up_to(100) : 0));
+        lend(&buffers[i], some_length(i, right));
+    }
+}
+
+static void choose_call(void) {
+    now.entry = (int)up_to(ENTRIES - 1);
+    bool lookup = now.entry == SAMPLING_LOOKUP || now.entry == SAMPLING_LOOKUP_OBSERVED;
+    if (lookup && !one_in(8)) now.entry -= SAMPLING_LOOKUP - SAMPLE_TILE; /* lookups take long */
+    memset(now.numbers, 0, sizeof now.numbers);
+    choose_tile();
+    choose_load();
+    now.lane = up_to(3);
+    if (one_in(4)) {
+        break_all();
+    } else {
+        while (one_in(3)) break_one();
+    }
+    choose_lengths();
+}
+
+#define LENT(i) buffers[i].lent, buffers[i].length
+
+static void set_answer(tk_answer given) {
+    answer.refusal = given.refusal;
+    answer.numbers[0] = given.count;
+}
+
+static void make_call(void) {
+    const tk_tile *t = &now.tile;
+    const uint32_t *n = now.numbers;
+    memset(&answer, 0, sizeof answer);
+    switch (now.entry) {
+        case LOAD_BLOCK:
+            set_answer(tk_load_block(LENT(BANK), LENT(WRITTEN), LENT(SOURCE), t->fmt, t->siz, t->line, t->tmem_addr,
+                                     now.image_siz, n[0], n[1]));
+            break;
+        case LOAD_TILE:
+            set_answer(tk_load_tile(LENT(BANK), LENT(WRITTEN), LENT(SOURCE), t->fmt, t->siz, t->line, t->tmem_addr,
+                                    now.image_siz, n[0], n[1], n[2]));
+            break;
+        case LOAD_TLUT:
+            set_answer(tk_load_tlut(LENT(BANK), LENT(WRITTEN), LENT(SOURCE), t->fmt, t->siz, t->line, t->tmem_addr,
+                                    now.image_siz, n[0], n[1], n[2]));
+            break;
+        case SAMPLING: {
+            tk_sampling_answer given = tk_sampling(TK_TILE_ARGUMENTS(t));
+            answer.refusal = given.refusal;
+            answer.numbers[0] = given.flag;
+            answer.numbers[1] = given.width;
+            answer.numbers[2] = given.height;
+            break;
+        }
+        case SAMPLE_TILE: set_answer(tk_sample_tile(LENT(BANK), TK_TILE_ARGUMENTS(t), now.lane, LENT(PICTURE))); break;
+        case SAMPLE_TILE_OBSERVED:
+            set_answer(tk_sample_tile_observed(LENT(BANK), TK_TILE_ARGUMENTS(t), now.lane, LENT(PICTURE), LENT(TRAIL)));
+            break;
+        case SAMPLING_LOOKUP:
+            set_answer(tk_sampling_lookup(LENT(BANK), TK_TILE_ARGUMENTS(t), now.lane, LENT(PICTURE)));
+            break;
+        case SAMPLING_LOOKUP_OBSERVED:
+            set_answer(tk_sampling_lookup_observed(LENT(BANK), TK_TILE_ARGUMENTS(t), now.lane, LENT(PICTURE), LENT(TRAIL)));
+            break;
+        case REACH: answer.refusal = tk_reach(TK_TILE_ARGUMENTS(t), LENT(MAP)); break;
+        case TILE_HAS_LOAD: {
+            tk_yes_answer given = tk_tile_has_load(TK_TILE_ARGUMENTS(t), LENT(WRITTEN));
+            answer.refusal = given.refusal;
+            answer.numbers[0] = given.yes;
+            break;
+        }
+        case PALETTE_NONREPLICATED: answer.refusal = tk_palette_nonreplicated(LENT(BANK), LENT(LANES)); break;
+        default: set_answer(tk_key(LENT(BANK), TK_TILE_ARGUMENTS(t), now.lane, LENT(KEY)));
+    }
+}
+
+/* ---- Checking it ---------------------------------------------------------------------------------------------------- */
+
+/* The bytes of a picture or trail that a successful call writes; of the other buffers all. */
+static size_t bytes_written(int i) {
+    if (i == PICTURE) return (size_t)(4 * texels());
+    if (i == TRAIL) return (size_t)(2 * reads_each() * texels());
+    return buffers[i].length;
+}
+
+/* Everything in a buffer but its lent bytes up to `changed` is as in the copy, which takes over the changed bytes. Near the
+ * lent part always, and all of the buffer now and then. */
+static void check_buffer(int i, size_t changed, bool whole) {
+    buffer *b = &buffers[i];
+    size_t at = b->lent == NULL ? 0 : (size_t)(b->lent - b->memory), end = at + b->length;
+    memcpy(b->copy + at, b->memory + at, changed);
+    size_t from = whole || at < 256 ? 0 : at - 256, to = whole || b->room - end < 256 ? b->room : end + 256;
+    if (memcmp(b->memory + from, b->copy + from, to - from) != 0) fail(buffer_names[i]);
+}
+
+static void check_count(void) {
+    uint64_t count = now.entry == LOAD_BLOCK ? 8 * (uint64_t)now.numbers[1] : 8 * (uint64_t)now.numbers[0] * now.numbers[1];
+    if (now.entry == LOAD_TLUT && now.numbers[1] == 1 && now.image_siz > 0) {
+        uint32_t entries_a_step = now.image_siz == 2 ? 1 : 16u >> now.image_siz;
+        count = 8 * (uint64_t)((now.numbers[0] + entries_a_step - 1) / entries_a_step);
+    }
+    if (entries[now.entry].takes & TAKES_PICTURE) count = reads_each() * texels();
+    bool counts = entries[now.entry].takes & (TAKES_LOAD | TAKES_PICTURE);
+    if (counts && answer.numbers[0] != count) fail("the count");
+}
+
+static void check_call(bool whole) {
+    uint32_t refusal = expected_refusal();
+    if (answer.refusal != refusal) {
+        fprintf(stderr, "rough: the table asks for %u\n", refusal);
+        fail("the refusal");
+    }
+    if (refusal != 0 && (answer.numbers[0] | answer.numbers[1] | answer.numbers[2]) != 0) fail("numbers beside a refusal");
+    if (refusal == 0) check_count();
+    for (int i = 0; i < BUFFERS; i++) {
+        bool written = entries[now.entry].written >> i & 1, lent = written || (entries[now.entry].read >> i & 1);
+        if (lent) check_buffer(i, refusal == 0 && written ? bytes_written(i) : 0, whole);
+    }
+}
+
+#ifdef __SANITIZE_ADDRESS__
+void __sanitizer_set_death_callback(void (*callback)(void));
+#endif
+
+int main(int argc, char **argv) {
+    if (argc < 3 || argc > 4) {
+        fprintf(stderr, "usage: rough SECONDS SEED [CALLS]\n");
+        return 2;
+    }
+    uint64_t seconds = strtoull(argv[1], NULL, 10), calls = argc == 4 ? strtoull(argv[3], NULL, 10) : UINT64_MAX;
+    state = strtoull(argv[2], NULL, 10);
+    for (int i = 0; i < BUFFERS; i++) make_buffer(&buffers[i], right_length[i]);
+#ifdef __SANITIZE_ADDRESS__
+    __sanitizer_set_death_callback(print_call);
+#endif
+
+    uint64_t done = 0, refused[16] = {0};
+    time_t began = time(NULL);
+    while (done < calls && (argc == 4 || done % 256 != 0 || (uint64_t)(time(NULL) - began) < seconds)) {
+        choose_call();
+        make_call();
+        check_call(done % 65536 == 0);
+        refused[answer.refusal % 16]++;
+        done++;
+    }
+    printf("rough handling: %llu calls, seed %s, refused by number:", (unsigned long long)done, argv[2]);
+    for (int i = 0; i < 10; i++) printf(" %d: %llu", i, (unsigned long long)refused[i]);
+    printf("\n");
+    return 0;
+}
