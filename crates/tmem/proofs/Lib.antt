@@ -1,6 +1,8 @@
+-- Laws of the parts of a load.
+pub mod Again
 pub mod Carry
 pub mod Indices
 pub mod Places
-pub mod Turns
+pub mod Rows
+pub mod Runs
 pub mod Within
-pub mod Again
