@@ -2,7 +2,8 @@
 pub mod Carry
 pub mod Indices
 pub mod Places
-pub mod Turns
+pub mod Runs
+pub mod Rows
 pub mod Within
 pub mod Again
 pub mod Axes

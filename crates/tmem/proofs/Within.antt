@@ -1,6 +1,6 @@
 -- What holds of a load that is not refused, and what a load answers and leaves.
 use mathlib.Core.Path.{_≡_, refl, _∙_}
-use mathlib.Core.Bool.{Bool, true, false, _&&_, _||_}
+use mathlib.Core.Bool.{Bool, true, false, _||_}
 use mathlib.Core.List.{List, [], _∷_}
 use Prim.Native.Nat.{ℕ, _≤_}
 use native.Mathlib.Omega.{arith}
@@ -8,7 +8,7 @@ use lib.Dec.{eqb, ltb}
 use lib.ListN.{length}
 use borrow.Author.Tests.{ltb-false, not-false, eqb-true}
 use Rattle.rules.specs.Tile.{Tile, loadFieldsOutside}
-use Rattle.rules.specs.Load.{Store, LoadTile, loadTile, stored, written, hardwareStores, rowStores, tlutStores}
+use Rattle.rules.specs.Load.{Store, loadTile, stored, written}
 use Rattle.rules.specs.Refusal.{Test, first}
 use Rattle.rules.specs.Calls.{loadTests, loaded, blockOutside, tileLoadOutside, tlutOutside}
 use Rattle.rules.proofs.Refused.{Passed, Numbered, passed, refused-is, done-is}
@@ -91,17 +91,6 @@ tlut-in count rows stride h =
       rows-in = ltb-false 1024 rows (not-right (ltb 1024 count || eqb rows 0) (ltb 1024 rows) rest);
       stride-in = ltb-false 65535 stride (not-right (ltb 1024 count || eqb rows 0 || ltb 1024 rows) (ltb 65535 stride) h);
     }
-
--- "TLUT with rows 1 and image size above 0: .. Otherwise .."
-pub hardware-is : (t : LoadTile) (image count rows stride : ℕ) → (eqb rows 1 && ltb 0 image) ≡ true
-    → tlutStores t image count rows stride ≡ hardwareStores t image count
-unfolding tlutStores
-hardware-is t image count rows stride e = rw e
-
-pub rows-are : (t : LoadTile) (image count rows stride : ℕ) → (eqb rows 1 && ltb 0 image) ≡ false
-    → tlutStores t image count rows stride ≡ rowStores t count rows stride
-unfolding tlutStores
-rows-are t image count rows stride e = rw e
 
 -- An answer with the first refusal, zero and the buffers as lent is the load's; where nothing is refused, so is one with the
 -- count of stores and the buffers with the stores carried out.

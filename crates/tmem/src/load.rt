@@ -7,8 +7,7 @@ ghost use Rattle.rdp.specs.View.{tileOf, answered};
 use crate::bank::Bank;
 use crate::load_block::write_block_words;
 use crate::load_tile::write_tile_rows;
-use crate::load_tlut::write_tlut_rows;
-use crate::load_tlut::write_tlut_words;
+use crate::load_tlut::write_tlut;
 use crate::place::load_fields;
 use rdp::answer::Answer;
 use rdp::refusal;
@@ -106,7 +105,7 @@ pub fn write_tile_for_tile(
     Answer { refusal: 0, count }
 }
 
-// A lookup table: the hardware's load for one row of an image above size 0, rows of entries otherwise.
+// A lookup table of `count` entries a row.
 pub fn write_tlut_for_tile(
     bank: &mut [u8],
     written: &mut [u8],
@@ -127,20 +126,16 @@ pub fn write_tlut_for_tile(
             count: 0,
         };
     }
-    let fields = load_fields(tile);
-    let stores = if (rows == 1) & (0 < image_siz) {
-        write_tlut_words(bank, written, src, fields, image_siz, count as usize)
-    } else {
-        write_tlut_rows(
-            bank,
-            written,
-            src,
-            fields,
-            count as usize,
-            rows as usize,
-            stride as usize,
-        )
-    };
+    let stores = write_tlut(
+        bank,
+        written,
+        src,
+        load_fields(tile),
+        image_siz,
+        count as usize,
+        rows as usize,
+        stride as usize,
+    );
     Answer {
         refusal: 0,
         count: stores,

@@ -4,7 +4,7 @@ ghost use Prim.Native.Nat.{_+_, _*_, _%_, _<_, _≤_};
 ghost use lib.ListN.{length};
 ghost use Rattle.rules.specs.Base.{tab};
 ghost use Rattle.rules.specs.Tile.{bankSize};
-ghost use Rattle.rules.specs.Load.{store, entries, advance, steps, hardwareStores, entryRow, rowStores};
+ghost use Rattle.rules.specs.Load.{store, entries, advance, steps, hardwareStores, entryRow, rowStores, tlutStores};
 ghost use Rattle.tmem.specs.Part.{loadOf, Ranged, Lent, CarriedOut};
 use crate::bank::Bank;
 use crate::place::LoadTile;
@@ -44,7 +44,7 @@ fn tlut_advance(image_siz: u32) -> usize
 }
 
 // The hardware's load, a word for each step; it answers its count of stores.
-pub(crate) fn write_tlut_words(
+fn write_tlut_words(
     bank: &mut [u8],
     written: &mut [u8],
     src: &[u8],
@@ -143,7 +143,7 @@ fn write_tlut_row(
 }
 
 // The rows of entries; it answers its count of stores.
-pub(crate) fn write_tlut_rows(
+fn write_tlut_rows(
     bank: &mut [u8],
     written: &mut [u8],
     src: &[u8],
@@ -165,4 +165,30 @@ pub(crate) fn write_tlut_rows(
         stores = stores + write_tlut_row(bank, written, src, tile, count, stride, row);
     }
     stores
+}
+
+// A lookup table: the hardware's load for one row of an image above size 0, rows of entries otherwise.
+pub(crate) fn write_tlut(
+    bank: &mut [u8],
+    written: &mut [u8],
+    src: &[u8],
+    tile: LoadTile,
+    image_siz: u32,
+    count: usize,
+    rows: usize,
+    stride: usize,
+) -> u32
+    requires { ⌜ Lent (now bank) (now written) ⌝ }
+    requires { ⌜ Ranged (loadOf tile) ⌝ }
+    requires { ⌜ «image_siz» ≤ 3 ⌝ }
+    requires { ⌜ count ≤ 1024 ⌝ }
+    requires { ⌜ rows ≤ 1024 ⌝ }
+    requires { ⌜ stride ≤ 65535 ⌝ }
+    ensures { λ _. ⌜ CarriedOut (now (src .entry)) (tlutStores (loadOf tile) «image_siz» count rows stride) (now (bank .entry)) (now (written .entry)) (now (bank .exit)) (now (written .exit)) ⌝ }
+    ensures { λ r. ⌜ r ≡ length (tlutStores (loadOf tile) «image_siz» count rows stride) ⌝ }
+{
+    if (rows == 1) & (0 < image_siz) {
+        return write_tlut_words(bank, written, src, tile, image_siz, count);
+    }
+    write_tlut_rows(bank, written, src, tile, count, rows, stride)
 }

@@ -1,11 +1,11 @@
--- `tmem::load::write_tlut_for_tile` refuses, or carries out one of the two loads, by the test of the rule. Assumes nothing.
+-- `tmem::load::write_tlut_for_tile` refuses, or carries the table out. Assumes nothing.
 use mathlib.Core.Path.{_≡_, sym, _∙_}
 use borrow.Author.Needs.{needs}
 use Rattle.rules.specs.Refusal.{first}
 use Rattle.rules.specs.Calls.{loadTests, tlutOutside, tlutCall}
 use Rattle.rules.specs.Load.{loadTile, tlutStores}
 use Rattle.rdp.specs.View.{tileOf}
-use Rattle.tmem.proofs.Within.{Within, within, TlutIn, tlut-in, hardware-is, rows-are, load-refused, load-done}
+use Rattle.tmem.proofs.Within.{Within, within, tlut-in, load-refused, load-done}
 use Rattle.tmem.proofs.load.write_tlut_for_tile.Statement.{statement}
 use Rattle.tmem.proofs.load.write_tlut_for_tile.Tie as tie
 
@@ -19,11 +19,6 @@ allowed : (c : tie.Else1) → let a = c .before .before .before .before .before 
 allowed c =
     let a = c .before .before .before .before .before .before .before .args in
     within (a .bank .now) (a .written .now) (a .src .now) (tileOf (a .tile)) (a .image-siz) (tlutOutside (a .count) (a .rows) (a .stride)) (zero c)
-
-ranges : (c : tie.Else1) → let a = c .before .before .before .before .before .before .before .args in TlutIn (a .count) (a .rows) (a .stride)
-ranges c =
-    let a = c .before .before .before .before .before .before .before .args in
-    tlut-in (a .count) (a .rows) (a .stride) (allowed c .inside)
 
 load-refusal-requires : tie.Need-load-refusal-requires
 load-refusal-requires c κs = search needs
@@ -43,19 +38,11 @@ returns c =
 load-fields-requires : tie.Need-load-fields-requires
 load-fields-requires c κs = search needs
 
-write-tlut-words-requires : tie.Need-write-tlut-words-requires
-write-tlut-words-requires c κs =
-    let f = c .before .before .before in
-    let w = allowed (f .before) in
-    let b = ranges (f .before) in
-    (w .lent, (rw (f .load-fields .ensures) (w .ranged), (w .image-in, b .count-in)))
-
-write-tlut-rows-requires : tie.Need-write-tlut-rows-requires
-write-tlut-rows-requires c κs =
-    let f = c .before .before .before in
-    let w = allowed (f .before) in
-    let b = ranges (f .before) in
-    (w .lent, (rw (f .load-fields .ensures) (w .ranged), (b .count-in, (b .rows-in, b .stride-in))))
+write-tlut-requires : tie.Need-write-tlut-requires
+write-tlut-requires c κs =
+    let w = allowed (c .before .before .before) in
+    let b = tlut-in _ _ _ (w .inside) in
+    (w .lent, (rw (c .load-fields .ensures) (w .ranged), (w .image-in, (b .count-in, (b .rows-in, b .stride-in)))))
 
 same-length-3 : tie.Need-same-length-3
 same-length-3 c = search needs
@@ -67,25 +54,8 @@ returns-2 : tie.Need-returns-2
 unfolding tlutCall
 returns-2 c =
     let d = c .before .before .before .before in
-    let i = d .before .before .before in
-    let a = i .before .before .before .before .before .before .before .before .before .args in
-    let done = rw (i .before .load-fields .ensures, ← hardware-is (loadTile (tileOf (a .tile))) (a .image-siz) (a .count) (a .rows) (a .stride) (i .if2 .taken)) at (d .write-tlut-words .ensures) in
-    load-done _ _ _ _ _ _ _ _ (zero (i .before .before)) (done .0) (done .1)
-
-same-length-5 : tie.Need-same-length-5
-same-length-5 c = search needs
-
-same-length-6 : tie.Need-same-length-6
-same-length-6 c = search needs
-
-returns-3 : tie.Need-returns-3
-unfolding tlutCall
-returns-3 c =
-    let d = c .before .before .before .before in
-    let i = d .before .before .before in
-    let a = i .before .before .before .before .before .before .before .before .before .args in
-    let done = rw (i .before .load-fields .ensures, ← rows-are (loadTile (tileOf (a .tile))) (a .image-siz) (a .count) (a .rows) (a .stride) (i .if2 .left)) at (d .write-tlut-rows .ensures) in
-    load-done _ _ _ _ _ _ _ _ (zero (i .before .before)) (done .0) (done .1)
+    let done = rw (d .before .load-fields .ensures) at (d .write-tlut .ensures) in
+    load-done _ _ _ _ _ _ _ _ (zero (d .before .before .before .before)) (done .0) (done .1)
 
 pub write-tlut-for-tile-spec : {M : Type 1} → statement M
 write-tlut-for-tile-spec =
@@ -96,11 +66,7 @@ write-tlut-for-tile-spec =
     same-length-2
     returns
     load-fields-requires
-    write-tlut-words-requires
-    write-tlut-rows-requires
+    write-tlut-requires
     same-length-3
     same-length-4
-    returns-2
-    same-length-5
-    same-length-6
-    returns-3)
+    returns-2)

@@ -2,7 +2,7 @@
 use borrow.Author.Needs.{needs}
 use native.Mathlib.Omega.{arith}
 use Rattle.tmem.specs.Part.{loadOf}
-use Rattle.tmem.proofs.Turns.{image-ranged, block-paced, block-is}
+use Rattle.tmem.proofs.Runs.{image-ranged, block-paced, block-is}
 use Rattle.tmem.proofs.load_block.write_block_words.Statement.{statement}
 use Rattle.tmem.proofs.load_block.write_block_words.Tie as tie
 

@@ -3,7 +3,7 @@ use native.Mathlib.Omega.{arith}
 use borrow.Author.Needs.{needs}
 use Rattle.tmem.specs.Part.{loadOf}
 use Rattle.tmem.proofs.Indices.{product-within}
-use Rattle.tmem.proofs.Turns.{image-ranged, row-paced, row-is}
+use Rattle.tmem.proofs.Runs.{image-ranged, row-paced, row-is}
 use Rattle.tmem.proofs.load_tile.write_tile_row.Statement.{statement}
 use Rattle.tmem.proofs.load_tile.write_tile_row.Tie as tie
 

@@ -4,7 +4,7 @@ use native.Mathlib.Omega.{arith}
 use Rattle.rules.specs.Load.{tileRow, tileStores}
 use Rattle.tmem.specs.Part.{loadOf}
 use Rattle.tmem.proofs.Carry.{Counted, begin-count, next-count, finish-count, count-within}
-use Rattle.tmem.proofs.Turns.{row-length}
+use Rattle.tmem.proofs.Rows.{row-length}
 use Rattle.tmem.proofs.load_tile.write_tile_rows.Statement.{statement}
 use Rattle.tmem.proofs.load_tile.write_tile_rows.Tie as tie
 

@@ -4,7 +4,7 @@ use native.Mathlib.Omega.{arith}
 use lib.Bits.{and-mask}
 use borrow.Author.Needs.{needs}
 use Rattle.tmem.proofs.Indices.{product-within}
-use Rattle.tmem.proofs.Turns.{lines-down}
+use Rattle.tmem.proofs.Rows.{lines-down}
 use Rattle.tmem.proofs.load_tlut.entry_addr.Statement.{statement}
 use Rattle.tmem.proofs.load_tlut.entry_addr.Tie as tie
 

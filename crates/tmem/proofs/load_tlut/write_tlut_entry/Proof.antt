@@ -3,7 +3,7 @@ use mathlib.Core.Path.{refl}
 use Prim.Native.Nat.{_-_}
 use native.Mathlib.Omega.{arith}
 use Rattle.tmem.proofs.Carry.{Turn, begin, next, finish}
-use Rattle.tmem.proofs.Turns.{entryTurn, entry-is}
+use Rattle.tmem.proofs.Rows.{entryTurn, entry-is}
 use Rattle.tmem.proofs.load_tlut.write_tlut_entry.Statement.{statement}
 use Rattle.tmem.proofs.load_tlut.write_tlut_entry.Tie as tie
 

@@ -6,7 +6,7 @@ use Rattle.rules.specs.Load.{entryStores, entryRow}
 use Rattle.tmem.specs.Part.{loadOf}
 use Rattle.tmem.proofs.Carry.{Counted, begin-count, next-count, finish-count, count-within}
 use Rattle.tmem.proofs.Indices.{product-within}
-use Rattle.tmem.proofs.Turns.{entry-length, entry-within, entry-at}
+use Rattle.tmem.proofs.Rows.{entry-length, entry-within, entry-at}
 use Rattle.tmem.proofs.load_tlut.write_tlut_row.Statement.{statement}
 use Rattle.tmem.proofs.load_tlut.write_tlut_row.Tie as tie
 

@@ -4,7 +4,7 @@ use native.Mathlib.Omega.{arith}
 use Rattle.rules.specs.Load.{entryRow, rowStores}
 use Rattle.tmem.specs.Part.{loadOf}
 use Rattle.tmem.proofs.Carry.{Counted, begin-count, next-count, finish-count, count-within}
-use Rattle.tmem.proofs.Turns.{entry-row-length}
+use Rattle.tmem.proofs.Rows.{entry-row-length}
 use Rattle.tmem.proofs.load_tlut.write_tlut_rows.Statement.{statement}
 use Rattle.tmem.proofs.load_tlut.write_tlut_rows.Tie as tie
 

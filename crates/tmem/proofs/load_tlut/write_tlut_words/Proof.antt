@@ -3,7 +3,7 @@ use Prim.Native.Nat.{_≤_}
 use native.Mathlib.Omega.{arith}
 use borrow.Author.Needs.{needs}
 use Rattle.tmem.specs.Part.{loadOf}
-use Rattle.tmem.proofs.Turns.{steps-within, tlut-paced, tlut-is}
+use Rattle.tmem.proofs.Runs.{steps-within, tlut-paced, tlut-is}
 use Rattle.tmem.proofs.load_tlut.write_tlut_words.Statement.{statement}
 use Rattle.tmem.proofs.load_tlut.write_tlut_words.Tie as tie
 

@@ -1,7 +1,7 @@
 -- `tmem::words::Run::word` computes a word's numbers; no product of a run wraps. Assumes nothing.
 use mathlib.Core.Path.{refl}
 use native.Mathlib.Omega.{arith}
-use Rattle.tmem.proofs.Turns.{Reached, reached}
+use Rattle.tmem.proofs.Runs.{Reached, reached}
 use Rattle.tmem.proofs.words.Run.word.Statement.{statement}
 use Rattle.tmem.proofs.words.Run.word.Tie as tie
 

@@ -1,22 +1,18 @@
 -- Runs of words: bounds of a word's numbers, and the rules' lists of a block, a tile's row and a TLUT as runs.
-use mathlib.Core.Path.{_≡_, refl, ap, sym, _∙_}
+use mathlib.Core.Path.{_≡_, ap}
 use mathlib.Core.Bool.{Bool, true, false, cond}
-use mathlib.Core.List.{List, [], _∷_}
-use Prim.Native.Nat.{ℕ, _+_, _*_, _/_, _%_, _^_, _<_, _≤_}
-use native.Mathlib.Nat.{zero-add, add-zero, mul-zero, mul-comm, mul-assoc, mul-left-comm, mul-le-mul, div-le-self, div-le-of-le-mul}
+use mathlib.Core.List.{List}
+use Prim.Native.Nat.{ℕ, _*_, _/_, _^_, _<_, _≤_}
+use native.Mathlib.Nat.{zero-add, add-zero, mul-zero, mul-comm, mul-le-mul, div-le-self, div-le-of-le-mul}
 use native.Mathlib.Omega.{arith}
 use lib.Dec.{eqb, leb, leb→le}
-use lib.ListN.{length}
-use Rattle.rules.specs.Base.{tab, tabFrom, concat}
-use Rattle.rules.specs.Load.{Store, store, LoadTile, imageTile, blockStores, tileRow, entries, advance, steps, hardwareStores, entryStores, entryRow}
+use Rattle.rules.specs.Base.{tab, concat}
+use Rattle.rules.specs.Load.{Store, LoadTile, imageTile, blockStores, tileRow, entries, advance, steps, hardwareStores}
 use Rattle.rules.proofs.Computed.{computed}
-use Rattle.rules.proofs.Tables.{length-tab}
 use Rattle.tmem.specs.declared.words.Run.{Run}
 use Rattle.tmem.specs.Part.{Ranged}
 use Rattle.tmem.specs.Run.{Paced, runStores}
-use Rattle.tmem.proofs.Carry.{table-length}
 use Rattle.tmem.proofs.Indices.{product-within}
-use Rattle.tmem.proofs.Places.{word-length}
 
 -- the products of word w of a run
 pub record Reached (r : Run) (w : ℕ) : Type 0 where
@@ -111,35 +107,3 @@ steps-within image count h k =
     let e = entries image in
     let p : 1 ≤ e = step-covers image h in
     div-le-of-le-mul e (omega arith)
-
--- rows of words and of entries, by their lengths
-pub row-length : (t : LoadTile) (image words stride row : ℕ) → length (tileRow t image words stride row) ≡ words * 8
-unfolding tileRow
-row-length t image words stride row = table-length _ 8 (λ w. word-length _ _ _ _) words
-
-pub entry-length : (t : LoadTile) (stride row i : ℕ) → length (entryStores t stride row i) ≡ 8
-unfolding entryStores
-entry-length t stride row i = length-tab 8 _
-
-pub entry-row-length : (t : LoadTile) (count stride row : ℕ) → length (entryRow t count stride row) ≡ count * 8
-unfolding entryRow
-entry-row-length t count stride row = table-length _ 8 (entry-length t stride row) count
-
--- four lines of bytes a row, and a pair of bytes four times over an entry's eight
-pub lines-down : (r l : ℕ) → r * (32 * l) ≡ 32 * r * l
-lines-down r l = mul-left-comm r 32 l ∙ sym (mul-assoc 32 r l)
-
-pub entry-within : (a r l i : ℕ) → (8 * a + 32 * r * l + 8 * i) % 4096 + 8 ≤ 4096
-entry-within a r l i = omega (arith, mul-assoc 32 r l)
-
-pub entry-at : (t : LoadTile) (stride r i at : ℕ) → at ≡ (8 * t .tmem-addr + 32 * r * t .line + 8 * i) % 4096
-    → tab 8 (λ k. store (at + k) (r * stride + 2 * i + k % 2)) ≡ entryStores t stride r i
-unfolding entryStores
-entry-at t stride r i at e = rw e
-
-abbrev pub entryTurn : ℕ → ℕ → ℕ → List Store
-entryTurn at source k = store (at + k) (source + k % 2) ∷ []
-
-pub entry-is : (at source : ℕ) → concat (tab 8 (entryTurn at source)) ≡ tab 8 (λ k. store (at + k) (source + k % 2))
-unfolding concat tab tabFrom
-entry-is at source = refl
