@@ -5,6 +5,7 @@ mod load;
 mod palette;
 pub mod picture;
 mod place;
+mod plan;
 mod rows;
 mod texel;
 mod trail;

@@ -8,9 +8,10 @@ ghost use Rattle.rules.specs.Picture.{readsEach};
 ghost use Rattle.rules.specs.Calls.{sampleTileCall, sampleTileObservedCall, samplingLookupCall, samplingLookupObservedCall};
 ghost use Rattle.rdp.specs.View.{tileOf, answered};
 ghost use Rattle.decoder.specs.Steps.{Tiled};
-ghost use Rattle.decoder.specs.Asked.{texelsBy, widthBy, rowsBy, earlyTests, testsBy, outcomeBy, buffersBy};
+ghost use Rattle.decoder.specs.Asked.{planBy, texelsBy, widthBy, rowsBy, earlyTests, testsBy, outcomeBy, buffersBy};
 use crate::format::format_of;
 use crate::format::reads_each;
+use crate::plan::Plan;
 use crate::rows::decode_rows;
 use rdp::answer::Answer;
 use rdp::refusal;
@@ -18,6 +19,7 @@ use rdp::tile::TileDescriptor;
 use rdp::tile::lane_outside;
 use rdp::tile::mode_outside;
 use texdec::format::FormatInfo;
+use texdec::ia8::ia8_table;
 
 // The texels of a row, the rows, and all texels.
 fn row_width(tile: TileDescriptor, lookup: bool) -> usize
@@ -111,6 +113,30 @@ fn trail_step(observe: bool, each: usize) -> usize
     if observe { 2 * each } else { 0 }
 }
 
+// What the picture is decoded by, with the reads of a texel.
+fn plan_of(
+    tile: TileDescriptor,
+    tlut_fmt: u32,
+    lane: u32,
+    lookup: bool,
+    observe: bool,
+    each: usize,
+) -> Plan
+    requires { ⌜ each ≤ 4 ⌝ }
+    ensures { λ r. ⌜ r ≡ planBy tile «tlut_fmt» lane lookup observe each ⌝ }
+{
+    Plan {
+        tile,
+        tlut_fmt,
+        lane,
+        lookup,
+        width: row_width(tile, lookup),
+        rows: row_count(tile, lookup),
+        observe,
+        step: trail_step(observe, each),
+    }
+}
+
 // The picture, with the trail of its reads if it is observed, or the refusal with both as they were lent.
 fn decode_picture(
     bank: &[u8],
@@ -131,26 +157,11 @@ fn decode_picture(
             count: 0,
         };
     }
-    let format = format_of(tile.fmt, tile.siz);
     let each = tile_reads(tile, tlut_fmt);
     let reads = each * texel_count(tile, lookup);
-    let step = trail_step(observe, each);
-    let rows = row_count(tile, lookup);
-    let width = row_width(tile, lookup);
-    decode_rows(
-        bank,
-        tile,
-        format,
-        tlut_fmt,
-        lane,
-        lookup,
-        rows,
-        width,
-        observe,
-        step,
-        out,
-        seen,
-    );
+    let plan = plan_of(tile, tlut_fmt, lane, lookup, observe, each);
+    let table = ia8_table();
+    decode_rows(bank, &table, plan, format_of(tile.fmt, tile.siz), out, seen);
     Answer {
         refusal: 0,
         count: reads as u32,
