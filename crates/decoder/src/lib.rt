@@ -6,6 +6,8 @@ mod palette;
 pub mod picture;
 mod place;
 mod plan;
+mod refused;
 mod rows;
+mod sizes;
 mod texel;
 mod trail;
