@@ -14,7 +14,7 @@ use Rattle.rules.specs.Tile.{Tile}
 use Rattle.rules.specs.Texdec.{Format, rgba16, rgba32, ci4, ci8, ci16, ia4, ia8, ia16, i4, i8, unknown, formatOf, tlut}
 use Rattle.rules.specs.Picture.{texel, rowStart, column, readsEach, formatReads, plain, plainRow, lookup, lookupRow}
 use Rattle.rules.proofs.Readings.{trail-length}
-use Rattle.decoder.specs.Rows.{scaleOf, rowAt, rowTexel, rowOf, rowsOf}
+use Rattle.decoder.specs.Rows.{trailStep, scaleOf, rowAt, rowTexel, rowOf, rowsOf}
 use Rattle.decoder.specs.Asked.{readingBy, texelsBy, widthBy, rowsBy}
 use Rattle.decoder.proofs.Placed.{row-reads}
 
@@ -88,3 +88,7 @@ reads-few t mode = go (tlut mode)
     go : (b : Bool) → cond b 3 (formatReads (formatOf (t .fmt) (t .siz))) ≤ 4
     go true = omega arith
     go false = format-few (formatOf (t .fmt) (t .siz))
+
+pub step-few : (observe : Bool) (t : Tile) (mode : ℕ) → trailStep observe t mode ≤ 8
+step-few true t mode = omega (arith, reads-few t mode)
+step-few false t mode = omega arith

@@ -10,10 +10,12 @@ use Rattle.rules.specs.Reading.{given, trail, upTo}
 use Rattle.rules.specs.Tile.{Tile}
 use Rattle.rules.specs.Texdec.{stepKnows}
 use Rattle.rules.specs.Picture.{texel, readsEach}
+use Rattle.rdp.specs.View.{tileOf}
 use Rattle.decoder.specs.declared.place.Row.{Row}
+use Rattle.decoder.specs.declared.plan.Plan.{Plan}
 use Rattle.decoder.specs.declared.texel.Texel.{Texel}
 use Rattle.decoder.specs.Steps.{Decodes}
-use Rattle.decoder.specs.Rows.{four, relIn, xIn, rowTexel, rowOf, told, trailStep}
+use Rattle.decoder.specs.Rows.{four, relIn, xIn, rowTexel, rowOf, oneTexel, oneRow, told, trailStep}
 use Rattle.decoder.proofs.Parts.{Parts, length-whole, given-parts, told-parts, told-length}
 use Rattle.decoder.proofs.Lengths.{texel-four, texel-reads, four-is}
 
@@ -38,30 +40,30 @@ module _ (t : Tile) (mode lane : ℕ) (r : Row) (i : ℕ) (bank : List ℕ) wher
     pub put-count : tx .count ≡ readsEach t mode
     put-count = omega (arith, d .few, d .full, simp length-take at (ap length put-reads), row-reads)
 
--- A row as its texels: what they give, and what they tell the trail.
-module _ (t : Tile) (mode lane : ℕ) (bank : List ℕ) (r : Row) (n : ℕ) where
-  pub row-given : stepKnows mode (t .fmt) (t .siz) ≡ true
-      → Parts n (λ i. given (rowTexel t mode lane r i) bank) (λ i. given (upTo i (rowTexel t mode lane r)) bank) 4
-  row-given h = given-parts (rowTexel t mode lane r) bank n 4 (λ i. row-four t mode lane r i bank h)
+-- A row of a plan as its texels: what they give, and what they tell the trail.
+module _ (p : Plan) (bank : List ℕ) (r : Row) (n : ℕ) where
+  pub row-given : stepKnows (p .«tlut_fmt») (p .tile .fmt) (p .tile .siz) ≡ true
+      → Parts n (λ i. given (oneTexel p r i) bank) (λ i. given (upTo i (oneTexel p r)) bank) 4
+  row-given h = given-parts (oneTexel p r) bank n 4 (λ i. row-four _ _ _ r i bank h)
 
-  pub row-told : (observe : Bool) (step : ℕ) → step ≡ trailStep observe t mode
-      → Parts n (λ i. told observe (trail (rowTexel t mode lane r i) bank)) (λ i. told observe (trail (upTo i (rowTexel t mode lane r)) bank)) step
-  row-told observe step e =
-      told-parts observe (rowTexel t mode lane r) bank n step
-      (λ i. told-length observe _ (readsEach t mode) (row-reads t mode lane r i bank) ∙ sym e)
+  pub row-told : p .step ≡ trailStep (p .observe) (tileOf (p .tile)) (p .«tlut_fmt»)
+      → Parts n (λ i. told (p .observe) (trail (oneTexel p r i) bank)) (λ i. told (p .observe) (trail (upTo i (oneTexel p r)) bank)) (p .step)
+  row-told e =
+      told-parts (p .observe) (oneTexel p r) bank n (p .step)
+      (λ i. told-length (p .observe) _ _ (row-reads _ _ (p .lane) r i bank) ∙ sym e)
 
--- A picture as its rows.
-module _ (t : Tile) (mode lane : ℕ) (bank : List ℕ) (row : ℕ → Row) (width n : ℕ) where
-  pub rows-given : stepKnows mode (t .fmt) (t .siz) ≡ true
-      → Parts n (λ y. given (rowOf t mode lane width (row y)) bank) (λ y. given (upTo y (λ k. rowOf t mode lane width (row k))) bank) (4 * width)
+-- And its rows one after the other.
+module _ (p : Plan) (bank : List ℕ) (row : ℕ → Row) (n : ℕ) where
+  pub rows-given : stepKnows (p .«tlut_fmt») (p .tile .fmt) (p .tile .siz) ≡ true
+      → Parts n (λ y. given (oneRow p (row y)) bank) (λ y. given (upTo y (λ k. oneRow p (row k))) bank) (4 * p .width)
   unfolding rowOf
   rows-given h =
-      given-parts (λ y. rowOf t mode lane width (row y)) bank n (4 * width)
-      (λ y. length-whole (row-given t mode lane bank (row y) width h) width (le-refl width))
+      given-parts (λ y. oneRow p (row y)) bank n (4 * p .width)
+      (λ y. length-whole (row-given p bank (row y) (p .width) h) (p .width) (le-refl (p .width)))
 
-  pub rows-told : (observe : Bool) (step : ℕ) → step ≡ trailStep observe t mode
-      → Parts n (λ y. told observe (trail (rowOf t mode lane width (row y)) bank)) (λ y. told observe (trail (upTo y (λ k. rowOf t mode lane width (row k))) bank)) (step * width)
+  pub rows-told : p .step ≡ trailStep (p .observe) (tileOf (p .tile)) (p .«tlut_fmt»)
+      → Parts n (λ y. told (p .observe) (trail (oneRow p (row y)) bank)) (λ y. told (p .observe) (trail (upTo y (λ k. oneRow p (row k))) bank)) (p .step * p .width)
   unfolding rowOf
-  rows-told observe step e =
-      told-parts observe (λ y. rowOf t mode lane width (row y)) bank n (step * width)
-      (λ y. length-whole (row-told t mode lane bank (row y) width observe step e) width (le-refl width))
+  rows-told e =
+      told-parts (p .observe) (λ y. oneRow p (row y)) bank n (p .step * p .width)
+      (λ y. length-whole (row-told p bank (row y) (p .width) e) (p .width) (le-refl (p .width)))

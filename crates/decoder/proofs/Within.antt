@@ -10,14 +10,19 @@ use lib.ListN.{length}
 use borrow.Author.Tests.{ltb-false, eqb-true, not-false}
 use Rattle.rules.specs.Reading.{trail}
 use Rattle.rules.specs.Tile.{Tile, bankSize, tileOutside, laneOutside}
-use Rattle.rules.specs.Texdec.{stepKnows}
+use Rattle.rules.specs.Texdec.{formatOf, stepKnows}
 use Rattle.rules.specs.Picture.{readsEach}
 use Rattle.rules.specs.Refusal.{first}
 use Rattle.rules.specs.Calls.{notBytes}
 use Rattle.rules.proofs.Refused.{Passed, Numbered, passed}
+use Rattle.rdp.specs.View.{tileOf}
+use Rattle.rdp.specs.declared.tile.TileDescriptor.{TileDescriptor}
+use Rattle.texdec.specs.Ia8.{Ia8Table}
+use Rattle.decoder.specs.declared.format.Format.{Format}
+use Rattle.decoder.specs.Formats.{formatView}
 use Rattle.decoder.specs.Steps.{Inside, Tiled}
-use Rattle.decoder.specs.Rows.{trailStep}
-use Rattle.decoder.specs.Asked.{readingBy, texelsBy, widthBy, rowsBy, earlyTests, testsBy}
+use Rattle.decoder.specs.Rows.{trailStep, Ready}
+use Rattle.decoder.specs.Asked.{readingBy, texelsBy, widthBy, rowsBy, planBy, earlyTests, testsBy}
 use Rattle.decoder.proofs.Counted.{texels-by, reads-count}
 
 -- one test after the other, from the left
@@ -82,9 +87,13 @@ pub record Allowed (observe looked : Bool) (bank : List ℕ) (t : Tile) (mode la
   pub room : 4 * widthBy looked t * rowsBy looked t ≤ length out
   pub trail-room : trailStep observe t mode * widthBy looked t * rowsBy looked t ≤ length seen
 
-pub narrow : (looked : Bool) (t : Tile) → Inside t → widthBy looked t ≤ 4096
+narrow : (looked : Bool) (t : Tile) → Inside t → widthBy looked t ≤ 4096
 narrow true t i = omega arith
 narrow false t i = omega arith
+
+short : (looked : Bool) (t : Tile) → Inside t → rowsBy looked t ≤ 1024
+short true t i = omega arith
+short false t i = i .height
 
 picture-room : (looked : Bool) (t : Tile) (g n : ℕ) → g * texelsBy looked t ≤ n → g * widthBy looked t * rowsBy looked t ≤ n
 picture-room looked t g n h = rw (mul-assoc, texels-by looked t) h
@@ -110,4 +119,22 @@ allowed false looked bank t mode lane out seen h =
       knows = not-false _ (late .1 .0);
       room = picture-room looked t 4 (length out) (ltb-false _ _ (late .0));
       trail-room = picture-room looked t 0 (length seen) (rw zero-mul (omega arith));
+    }
+
+-- and the plan of such a call is ready
+pub ready : (tile : TileDescriptor) (mode lane each : ℕ) (observe looked : Bool) (bank ia8 out seen : List ℕ) (f : Format)
+    → Allowed observe looked bank (tileOf tile) mode lane out seen → Ia8Table ia8 → formatView f ≡ formatOf (tile .fmt) (tile .siz)
+    → each ≡ readsEach (tileOf tile) mode → Ready bank ia8 (planBy tile mode lane looked observe each) f
+ready tile mode lane each observe looked bank ia8 out seen f a table format e =
+    let i = a .early .tile .inside in
+    record {
+      whole = a .early .whole;
+      table = table;
+      inside = i;
+      format = format;
+      knows = a .knows;
+      slot = a .early .slot;
+      narrow = narrow looked (tileOf tile) i;
+      short = short looked (tileOf tile) i;
+      step = rw e;
     }

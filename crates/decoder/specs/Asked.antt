@@ -1,12 +1,15 @@
 -- The four calls as one: the lookup or the plain picture, with a trail or without.
 use mathlib.Core.Bool.{Bool, true, false, cond}
 use mathlib.Core.List.{List, [], _∷_}
-use Prim.Native.Nat.{ℕ}
+use Prim.Native.Nat.{ℕ, _*_}
 use Rattle.rules.specs.Tile.{Tile, bankSize}
 use Rattle.rules.specs.Reading.{Reading}
 use Rattle.rules.specs.Sampling.{lookupTexels}
 use Rattle.rules.specs.Picture.{plain, lookup}
 use Rattle.rules.specs.Refusal.{Test, _if_, Outcome}
+use Rattle.rdp.specs.View.{tileOf}
+use Rattle.rdp.specs.declared.tile.TileDescriptor.{TileDescriptor}
+use Rattle.decoder.specs.declared.plan.Plan.{Plan}
 use Rattle.rules.specs.Calls.{notBytes, pairTests, plainTexels, pictureTests, observedTests, pictureCall, observedCall}
 
 -- the picture that is asked for, its texels, and its rows and their width
@@ -22,6 +25,20 @@ widthBy looked t = cond looked 4096 (t .width)
 
 abbrev pub rowsBy : Bool → Tile → ℕ
 rowsBy looked t = cond looked 4 (t .height)
+
+-- what it is decoded by, with the reads of a texel
+abbrev pub planBy : TileDescriptor → ℕ → ℕ → Bool → Bool → ℕ → Plan
+planBy tile mode lane looked observe each =
+    record {
+      tile = tile;
+      «tlut_fmt» = mode;
+      lane = lane;
+      lookup = looked;
+      width = widthBy looked (tileOf tile);
+      rows = rowsBy looked (tileOf tile);
+      observe = observe;
+      step = cond observe (2 * each) 0;
+    }
 
 -- the tests before the buffers'
 abbrev pub earlyTests : List ℕ → Tile → ℕ → ℕ → List Test

@@ -1,15 +1,22 @@
 -- The plain picture and the lookup as one: rows of texels, each at its place.
+use mathlib.Core.Path.{_≡_}
 use mathlib.Core.Bool.{Bool, true, false, cond, _&&_}
 use mathlib.Core.List.{List, [], _∷_}
 use Prim.Native.Nat.{ℕ, _+_, _*_, _/_, _%_, _≤_}
 use lib.Dec.{eqb}
-use lib.ListN.{getD}
+use lib.ListN.{length, getD}
 use Rattle.rules.specs.Base.{odd}
 use Rattle.rules.specs.Reading.{Reading, upTo, encoded}
 use Rattle.rules.specs.Tile.{Tile}
-use Rattle.rules.specs.Texdec.{tlut}
+use Rattle.rules.specs.Texdec.{tlut, formatOf, stepKnows}
 use Rattle.rules.specs.Picture.{texel, rowStart, readsEach}
+use Rattle.rdp.specs.View.{tileOf}
+use Rattle.texdec.specs.Ia8.{Ia8Table}
+use Rattle.decoder.specs.declared.format.Format.{Format}
 use Rattle.decoder.specs.declared.place.Row.{Row}
+use Rattle.decoder.specs.declared.plan.Plan.{Plan}
+use Rattle.decoder.specs.Formats.{formatView}
+use Rattle.decoder.specs.Steps.{Inside}
 
 -- the halves of a byte that a texel takes in its row
 abbrev pub scaleOf : Tile → ℕ → ℕ
@@ -55,3 +62,26 @@ told observe l = cond observe (encoded l) []
 -- the bytes of trail that a texel takes
 abbrev pub trailStep : Bool → Tile → ℕ → ℕ
 trailStep observe t mode = cond observe (2 * readsEach t mode) 0
+
+-- what holds once nothing was refused: the bank is whole, the IA8 table is at hand, and the plan's tile with its format, mode
+-- and lane are as a texel takes them
+pub record Ready (bank ia8 : List ℕ) (p : Plan) (f : Format) : Type 0 where
+  pub whole : length bank ≡ 4096
+  pub table : Ia8Table ia8
+  pub inside : Inside (tileOf (p .tile))
+  pub format : formatView f ≡ formatOf (p .tile .fmt) (p .tile .siz)
+  pub knows : stepKnows (p .«tlut_fmt») (p .tile .fmt) (p .tile .siz) ≡ true
+  pub slot : p .lane ≤ 3
+  pub narrow : p .width ≤ 4096
+  pub short : p .rows ≤ 1024
+  pub step : p .step ≡ trailStep (p .observe) (tileOf (p .tile)) (p .«tlut_fmt»)
+
+-- texel i of a row, a row, and all rows of a plan
+abbrev pub oneTexel : Plan → Row → ℕ → Reading
+oneTexel p r i = rowTexel (tileOf (p .tile)) (p .«tlut_fmt») (p .lane) r i
+
+abbrev pub oneRow : Plan → Row → Reading
+oneRow p r = rowOf (tileOf (p .tile)) (p .«tlut_fmt») (p .lane) (p .width) r
+
+abbrev pub allRows : Plan → Reading
+allRows p = rowsOf (p .lookup) (tileOf (p .tile)) (p .«tlut_fmt») (p .lane) (p .width) (p .rows)

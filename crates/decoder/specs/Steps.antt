@@ -1,14 +1,10 @@
 -- Parts of the rules under names of their own, for the contracts inside the decoder. The public contracts cite the rules alone.
 use mathlib.Core.Path.{_≡_}
-use mathlib.Core.Bool.{true}
 use mathlib.Core.List.{List}
 use Prim.Native.Nat.{ℕ, _≤_}
 use lib.ListN.{length, getD, take}
 use Rattle.rules.specs.Reading.{Reading, given, trail}
 use Rattle.rules.specs.Tile.{Tile}
-use Rattle.rules.specs.Texdec.{formatOf, stepKnows}
-use Rattle.decoder.specs.declared.format.Format.{Format}
-use Rattle.decoder.specs.Formats.{formatView}
 use Rattle.decoder.specs.declared.load.Load.{Load}
 use Rattle.decoder.specs.declared.texel.Texel.{Texel}
 
@@ -35,11 +31,3 @@ pub record Inside (t : Tile) : Type 0 where
 pub record Tiled (t : Tile) : Type 0 where
   pub format : t .fmt ≤ 7
   pub inside : Inside t
-
--- what holds once nothing was refused: the bank, the tile with its format worked out, mode and lane are as a texel takes them
-pub record Ready (bank : List ℕ) (t : Tile) (f : Format) (mode lane : ℕ) : Type 0 where
-  pub whole : length bank ≡ 4096
-  pub inside : Inside t
-  pub format : formatView f ≡ formatOf (t .fmt) (t .siz)
-  pub knows : stepKnows mode (t .fmt) (t .siz) ≡ true
-  pub slot : lane ≤ 3

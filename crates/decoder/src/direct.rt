@@ -4,6 +4,7 @@ ghost use Prim.Native.Nat.{_+_, _*_, _<_, _≤_};
 ghost use lib.ListN.{length};
 ghost use Rattle.rules.specs.Texdec.{rgba32, same4, nibble};
 ghost use Rattle.rules.specs.Picture.{direct};
+ghost use Rattle.texdec.specs.Ia8.{Ia8Table};
 ghost use Rattle.decoder.specs.Formats.{oneView, twoView, formatView};
 ghost use Rattle.decoder.specs.Steps.{Decodes};
 use crate::format::Format;
@@ -15,7 +16,7 @@ use crate::palette::entry_of;
 use crate::texel::Texel;
 use texdec::entry::decode_ia16_entry;
 use texdec::entry::decode_rgba16_entry;
-use texdec::ia8::decode_ia8;
+use texdec::ia8::texel_bytes;
 use texdec::nibble::decode_i4;
 use texdec::nibble::decode_ia4;
 use texdec::nibble::nibble;
@@ -70,6 +71,7 @@ fn two_byte_texel(
 // A texel of one byte.
 fn one_byte_texel(
     bank: &[u8],
+    ia8: &[u32; 256],
     format: OneByte,
     base: usize,
     palette: u32,
@@ -78,6 +80,7 @@ fn one_byte_texel(
     x: usize,
 ) -> Texel
     requires { ⌜ length (now bank) ≡ 4096 ⌝ }
+    requires { ⌜ Ia8Table (now ia8) ⌝ }
     requires { ⌜ base < 4096 ⌝ }
     requires { ⌜ palette ≤ 15 ⌝ }
     requires { ⌜ rel < 2097152 ⌝ }
@@ -88,7 +91,7 @@ fn one_byte_texel(
     let channels = match format {
         OneByte::Ci4 => ci4_texel(palette, x, byte),
         OneByte::Ia4 => decode_ia4(x, byte),
-        OneByte::Ia8 => decode_ia8(byte),
+        OneByte::Ia8 => texel_bytes(ia8[byte as usize]),
         OneByte::I4 => decode_i4(x, byte),
         OneByte::Ci8 => [byte, byte, byte, byte],
         OneByte::I8 => [byte, byte, byte, byte],
@@ -112,6 +115,7 @@ fn ci4_texel(palette: u32, x: usize, byte: u8) -> [u8; 4]
 // A texel of any format. Of one that it does not know it reads and gives nothing.
 pub(crate) fn direct_texel(
     bank: &[u8],
+    ia8: &[u32; 256],
     format: Format,
     base: usize,
     palette: u32,
@@ -120,13 +124,14 @@ pub(crate) fn direct_texel(
     x: usize,
 ) -> Texel
     requires { ⌜ length (now bank) ≡ 4096 ⌝ }
+    requires { ⌜ Ia8Table (now ia8) ⌝ }
     requires { ⌜ base < 4096 ⌝ }
     requires { ⌜ palette ≤ 15 ⌝ }
     requires { ⌜ rel + 1 < 2097152 ⌝ }
     ensures { λ r. ⌜ Decodes (direct (formatView format) base palette odd rel x) (now (bank .entry)) r ⌝ }
 {
     match format {
-        Format::One(f) => one_byte_texel(bank, f, base, palette, rel, odd, x),
+        Format::One(f) => one_byte_texel(bank, ia8, f, base, palette, rel, odd, x),
         Format::Two(f) => two_byte_texel(bank, f, base, palette, rel, odd, x),
         Format::Rgba32 => rgba32_texel(bank, base, palette, rel, odd, x),
         Format::Unknown => Texel {

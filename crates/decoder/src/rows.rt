@@ -5,15 +5,13 @@ ghost use Prim.Native.Nat.{_*_, _<_, _≤_};
 ghost use lib.ListN.{length};
 ghost use Rattle.rules.specs.Base.{over};
 ghost use Rattle.rules.specs.Reading.{given, trail};
-ghost use Rattle.rdp.specs.View.{tileOf};
-ghost use Rattle.decoder.specs.Steps.{Ready};
-ghost use Rattle.decoder.specs.Rows.{four, RowBounds, rowTexel, rowOf, rowsOf, told, trailStep};
+ghost use Rattle.decoder.specs.Rows.{four, RowBounds, Ready, oneTexel, oneRow, allRows, told};
 use crate::format::Format;
 use crate::place::Row;
 use crate::place::row_at;
+use crate::plan::Plan;
 use crate::texel::decode_texel_lane;
 use crate::trail::note_reads;
-use rdp::tile::TileDescriptor;
 
 // Four channels go to the front of the picture.
 fn put_channels(channels: [u8; 4], out: &mut [u8])
@@ -29,115 +27,102 @@ fn put_channels(channels: [u8; 4], out: &mut [u8])
 // Texel i of a row goes to the front of the picture, and its reads to the front of the trail if it is observed.
 fn put_texel(
     bank: &[u8],
-    tile: TileDescriptor,
+    ia8: &[u32; 256],
+    plan: Plan,
     format: Format,
-    tlut_fmt: u32,
-    lane: u32,
     row: Row,
     i: usize,
-    observe: bool,
     out: &mut [u8],
     seen: &mut [u8],
 )
-    requires { ⌜ Ready (now bank) (tileOf tile) format «tlut_fmt» lane ⌝ }
+    requires { ⌜ Ready (now bank) (now ia8) plan format ⌝ }
     requires { ⌜ RowBounds row ⌝ }
     requires { ⌜ i < 4096 ⌝ }
     requires { ⌜ 4 ≤ length (now out) ⌝ }
-    requires { ⌜ trailStep observe (tileOf tile) «tlut_fmt» ≤ length (now seen) ⌝ }
-    ensures { λ _. ⌜ now (out .exit) ≡ over (given (rowTexel (tileOf tile) «tlut_fmt» lane row i) (now (bank .entry))) (now (out .entry)) ⌝ }
-    ensures { λ _. ⌜ now (seen .exit) ≡ over (told observe (trail (rowTexel (tileOf tile) «tlut_fmt» lane row i) (now (bank .entry)))) (now (seen .entry)) ⌝ }
+    requires { ⌜ plan .step ≤ length (now seen) ⌝ }
+    ensures { λ _. ⌜ now (out .exit) ≡ over (given (oneTexel plan row i) (now (bank .entry))) (now (out .entry)) ⌝ }
+    ensures { λ _. ⌜ now (seen .exit) ≡ over (told (plan .observe) (trail (oneTexel plan row i) (now (bank .entry)))) (now (seen .entry)) ⌝ }
 {
     let rel = row.rel(i);
     let x = row.x(i);
-    let texel = decode_texel_lane(bank, tile, format, tlut_fmt, lane, rel, row.odd, x);
+    let tile = plan.tile;
+    let texel = decode_texel_lane(
+        bank,
+        ia8,
+        tile,
+        format,
+        plan.tlut_fmt,
+        plan.lane,
+        rel,
+        row.odd,
+        x,
+    );
     let channels = texel.channels;
     put_channels(channels, out);
-    if observe {
+    if plan.observe {
         let reads = texel.reads;
         note_reads(reads, texel.count, seen);
     }
 }
 
-// A row, from the front of picture and trail on. A texel takes `step` bytes of trail: none where it is not observed.
+// A row, from the front of picture and trail on.
 fn decode_row(
     bank: &[u8],
-    tile: TileDescriptor,
+    ia8: &[u32; 256],
+    plan: Plan,
     format: Format,
-    tlut_fmt: u32,
-    lane: u32,
     row: Row,
-    width: usize,
-    observe: bool,
-    step: usize,
     out: &mut [u8],
     seen: &mut [u8],
 )
-    requires { ⌜ Ready (now bank) (tileOf tile) format «tlut_fmt» lane ⌝ }
+    requires { ⌜ Ready (now bank) (now ia8) plan format ⌝ }
     requires { ⌜ RowBounds row ⌝ }
-    requires { ⌜ width ≤ 4096 ⌝ }
-    requires { ⌜ step ≡ trailStep observe (tileOf tile) «tlut_fmt» ⌝ }
-    requires { ⌜ 4 * width ≤ length (now out) ⌝ }
-    requires { ⌜ step * width ≤ length (now seen) ⌝ }
-    ensures { λ _. ⌜ now (out .exit) ≡ over (given (rowOf (tileOf tile) «tlut_fmt» lane width row) (now (bank .entry))) (now (out .entry)) ⌝ }
-    ensures { λ _. ⌜ now (seen .exit) ≡ over (told observe (trail (rowOf (tileOf tile) «tlut_fmt» lane width row) (now (bank .entry)))) (now (seen .entry)) ⌝ }
+    requires { ⌜ 4 * plan .width ≤ length (now out) ⌝ }
+    requires { ⌜ plan .step * plan .width ≤ length (now seen) ⌝ }
+    ensures { λ _. ⌜ now (out .exit) ≡ over (given (oneRow plan row) (now (bank .entry))) (now (out .entry)) ⌝ }
+    ensures { λ _. ⌜ now (seen .exit) ≡ over (told (plan .observe) (trail (oneRow plan row) (now (bank .entry)))) (now (seen .entry)) ⌝ }
 {
+    let width = plan.width;
+    let step = plan.step;
     for i in 0..width {
         let o = 4 * i;
         let s = step * i;
         put_texel(
             bank,
-            tile,
+            ia8,
+            plan,
             format,
-            tlut_fmt,
-            lane,
             row,
             i,
-            observe,
             &mut out[o..],
             &mut seen[s..],
         );
     }
 }
 
-// Rows from 0 on. Row y is written through the part of the picture from 4 times width times y on, and of the trail likewise.
+// All rows. Row y is written through the part of the picture from 4 times width times y on, and of the trail likewise.
 pub(crate) fn decode_rows(
     bank: &[u8],
-    tile: TileDescriptor,
+    ia8: &[u32; 256],
+    plan: Plan,
     format: Format,
-    tlut_fmt: u32,
-    lane: u32,
-    lookup: bool,
-    rows: usize,
-    width: usize,
-    observe: bool,
-    step: usize,
     out: &mut [u8],
     seen: &mut [u8],
 )
-    requires { ⌜ Ready (now bank) (tileOf tile) format «tlut_fmt» lane ⌝ }
-    requires { ⌜ width ≤ 4096 ⌝ }
-    requires { ⌜ step ≡ trailStep observe (tileOf tile) «tlut_fmt» ⌝ }
-    requires { ⌜ 4 * width * rows ≤ length (now out) ⌝ }
-    requires { ⌜ step * width * rows ≤ length (now seen) ⌝ }
-    ensures { λ _. ⌜ now (out .exit) ≡ over (given (rowsOf lookup (tileOf tile) «tlut_fmt» lane width rows) (now (bank .entry))) (now (out .entry)) ⌝ }
-    ensures { λ _. ⌜ now (seen .exit) ≡ over (told observe (trail (rowsOf lookup (tileOf tile) «tlut_fmt» lane width rows) (now (bank .entry)))) (now (seen .entry)) ⌝ }
+    requires { ⌜ Ready (now bank) (now ia8) plan format ⌝ }
+    requires { ⌜ 4 * plan .width * plan .rows ≤ length (now out) ⌝ }
+    requires { ⌜ plan .step * plan .width * plan .rows ≤ length (now seen) ⌝ }
+    ensures { λ _. ⌜ now (out .exit) ≡ over (given (allRows plan) (now (bank .entry))) (now (out .entry)) ⌝ }
+    ensures { λ _. ⌜ now (seen .exit) ≡ over (told (plan .observe) (trail (allRows plan) (now (bank .entry)))) (now (seen .entry)) ⌝ }
 {
+    let rows = plan.rows;
+    let bytes = 4 * plan.width;
+    let told = plan.step * plan.width;
     for y in 0..rows {
-        let row = row_at(tile, tlut_fmt, lookup, y);
-        let o = 4 * width * y;
-        let s = step * width * y;
-        decode_row(
-            bank,
-            tile,
-            format,
-            tlut_fmt,
-            lane,
-            row,
-            width,
-            observe,
-            step,
-            &mut out[o..],
-            &mut seen[s..],
-        );
+        let tile = plan.tile;
+        let row = row_at(tile, plan.tlut_fmt, plan.lookup, y);
+        let o = bytes * y;
+        let s = told * y;
+        decode_row(bank, ia8, plan, format, row, &mut out[o..], &mut seen[s..]);
     }
 }

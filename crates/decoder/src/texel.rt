@@ -5,6 +5,7 @@ ghost use lib.ListN.{length};
 ghost use Rattle.rules.specs.Texdec.{formatOf};
 ghost use Rattle.rules.specs.Picture.{texel};
 ghost use Rattle.rdp.specs.View.{tileOf};
+ghost use Rattle.texdec.specs.Ia8.{Ia8Table};
 ghost use Rattle.decoder.specs.Formats.{formatView};
 ghost use Rattle.decoder.specs.Steps.{Decodes, Inside};
 use crate::direct::direct_texel;
@@ -19,9 +20,11 @@ pub(crate) struct Texel {
     pub(crate) count: usize,
 }
 
-// The texel of tile, mode and lane at rel and x, on an odd row or not. The tile's format is worked out before.
+// The texel of tile, mode and lane at rel and x, on an odd row or not. The tile's format and the
+// IA8 table are worked out before.
 pub(crate) fn decode_texel_lane(
     bank: &[u8],
+    ia8: &[u32; 256],
     tile: TileDescriptor,
     format: Format,
     tlut_fmt: u32,
@@ -31,6 +34,7 @@ pub(crate) fn decode_texel_lane(
     x: usize,
 ) -> Texel
     requires { ⌜ length (now bank) ≡ 4096 ⌝ }
+    requires { ⌜ Ia8Table (now ia8) ⌝ }
     requires { ⌜ Inside (tileOf tile) ⌝ }
     requires { ⌜ formatView format ≡ formatOf (tile .fmt) (tile .siz) ⌝ }
     requires { ⌜ lane ≤ 3 ⌝ }
@@ -42,5 +46,5 @@ pub(crate) fn decode_texel_lane(
     }
     let word = tile.tmem_addr;
     let base = word.bytes();
-    direct_texel(bank, format, base.0, tile.palette, rel, odd, x)
+    direct_texel(bank, ia8, format, base.0, tile.palette, rel, odd, x)
 }

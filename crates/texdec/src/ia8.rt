@@ -1,6 +1,7 @@
 // The texels of the IA8 format, as a table, whose rule is proved once, over all of its entries.
 ghost use mathlib.Core.Path.{_≡_};
 ghost use Rattle.rules.specs.Texdec.{ia8Texel};
+ghost use Rattle.texdec.specs.Ia8.{channels, Ia8Table};
 
 // The four channels of each byte, red in the highest eight bits and alpha in the lowest.
 const IA8: [u32; 256] = [
@@ -262,15 +263,29 @@ const IA8: [u32; 256] = [
     0xFFFFFFFF,
 ];
 
-// The IA8 texel of a byte: the high nibble is the intensity, the low one the alpha, each repeated.
-pub fn decode_ia8(byte: u8) -> [u8; 4]
-    ensures { λ r. ⌜ r ≡ ia8Texel byte ⌝ }
+// The four channels of a ready texel.
+pub fn texel_bytes(texel: u32) -> [u8; 4]
+    ensures { λ r. ⌜ r ≡ channels texel ⌝ }
 {
-    let texel = IA8[byte as usize];
     [
         ((texel >> 24) % 256) as u8,
         ((texel >> 16) % 256) as u8,
         ((texel >> 8) % 256) as u8,
         (texel % 256) as u8,
     ]
+}
+
+// The table, for a caller that reads many texels of it: a constant is written out anew wherever it is used.
+pub fn ia8_table() -> [u32; 256]
+    ensures { λ r. ⌜ Ia8Table r ⌝ }
+{
+    IA8
+}
+
+// The IA8 texel of a byte: the high nibble is the intensity, the low one the alpha, each repeated.
+pub fn decode_ia8(byte: u8) -> [u8; 4]
+    ensures { λ r. ⌜ r ≡ ia8Texel byte ⌝ }
+{
+    let table = ia8_table();
+    texel_bytes(table[byte as usize])
 }

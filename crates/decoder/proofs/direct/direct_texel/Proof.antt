@@ -11,7 +11,9 @@ enum-known-format : tie.Need-enum-known-format
 enum-known-format c = search needs
 
 one-byte-texel-requires : tie.Need-one-byte-texel-requires
-one-byte-texel-requires c κs = search needs
+one-byte-texel-requires c κs =
+    let p = c .before .before .before .before .pre in
+    (p .0, (p .1 .0, (p .1 .1 .0, (p .1 .1 .1 .0, omega arith))))
 
 enum-known-format-2 : tie.Need-enum-known-format-2
 enum-known-format-2 c = search needs

@@ -3,6 +3,7 @@ use Rattle.rules.specs.Picture.{direct}
 use Rattle.rules.specs.Reading.{given, trail}
 use native.Mathlib.Omega.{arith}
 use mathlib.Core.Path.{refl}
+use Prim.Native.Nat.{_<_}
 use borrow.Author.Needs.{needs}
 use Rattle.decoder.proofs.direct.one_byte_texel.Statement.{statement}
 use Rattle.decoder.proofs.direct.one_byte_texel.Tie as tie
@@ -25,8 +26,17 @@ decode-ia4-requires c κs = search needs
 enum-told-3 : tie.Need-enum-told-3
 enum-told-3 c = search needs
 
-decode-ia8-requires : tie.Need-decode-ia8-requires
-decode-ia8-requires c κs = search needs
+cast-texel-bytes : tie.Need-cast-texel-bytes
+cast-texel-bytes c = search needs
+
+mul-texel-bytes : tie.Need-mul-texel-bytes
+mul-texel-bytes c = search needs
+
+element-copy-out-texel-bytes : tie.Need-element-copy-out-texel-bytes
+element-copy-out-texel-bytes c = search needs
+
+texel-bytes-requires : tie.Need-texel-bytes-requires
+texel-bytes-requires c κs = search needs
 
 enum-told-4 : tie.Need-enum-told-4
 enum-told-4 c = search needs
@@ -55,7 +65,10 @@ returns-2 c =
 returns-3 : tie.Need-returns-3
 unfolding direct given trail
 returns-3 c =
-    rw (c .before .enum-told3 .given .1, c .decode-ia8 .ensures, c .before .before .before .load-byte .ensures)
+    let l = c .before .before .before .before in
+    let s = l .before .before in
+    let byte : l .load-byte .result .byte < 256 = omega arith in
+    rw (c .before .before .enum-told3 .given .1, c .texel-bytes .ensures, s .pre .1 .0 .at (l .load-byte .result .byte) byte, l .load-byte .ensures)
     (record { channels = refl; reads = refl; few = omega arith; full = refl })
 
 returns-4 : tie.Need-returns-4
@@ -86,7 +99,10 @@ one-byte-texel-spec =
     enum-told-2
     decode-ia4-requires
     enum-told-3
-    decode-ia8-requires
+    cast-texel-bytes
+    mul-texel-bytes
+    element-copy-out-texel-bytes
+    texel-bytes-requires
     enum-told-4
     decode-i4-requires
     enum-told-5

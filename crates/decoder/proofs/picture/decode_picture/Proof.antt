@@ -1,13 +1,13 @@
 -- `decoder::picture::decode_picture` answers and leaves what the call's outcome says: refused, or the rows written and their reads counted.
 use Rattle.decoder.proofs.Outcomes.{refused, done}
-use Rattle.decoder.proofs.Within.{Allowed, allowed, narrow}
+use Rattle.decoder.proofs.Within.{Allowed, allowed, ready}
 use Rattle.decoder.specs.Asked.{testsBy}
 use Rattle.rdp.specs.View.{tileOf}
 use Rattle.rules.specs.Refusal.{first}
 use native.Mathlib.Omega.{arith}
 use native.Mathlib.Nat.{mul-le-mul}
 use Prim.Native.Nat.{_*_, _≤_}
-use mathlib.Core.Path.{_≡_, ap, sym, _∙_}
+use mathlib.Core.Path.{_≡_, sym, _∙_}
 use borrow.Author.Needs.{needs}
 use Rattle.decoder.proofs.picture.decode_picture.Statement.{statement}
 use Rattle.decoder.proofs.picture.decode_picture.Tie as tie
@@ -38,49 +38,36 @@ returns c =
     let a = c .before .before .before .before .before .before .before .args in
     refused (a .lookup) (a .bank .now) (tileOf (a .tile)) (a .«tlut-fmt») (a .lane) (a .out .now) (a .seen .now) (a .observe) _ (c .before .first-refusal .ensures) (c .if1 .taken)
 
-format-of-requires : tie.Need-format-of-requires
-format-of-requires c κs = let t = may c .early .tile in (t .format, t .inside .siz)
-
 tile-reads-requires : tie.Need-tile-reads-requires
-tile-reads-requires c κs = may (c .before) .early .tile
+tile-reads-requires c κs = may c .early .tile
 
 texel-count-requires : tie.Need-texel-count-requires
-texel-count-requires c κs = may (c .before .before) .early .tile
+texel-count-requires c κs = may (c .before) .early .tile
 
 mul-reads : tie.Need-mul-reads
 mul-reads c = omega (arith, few c)
 
-trail-step-requires : tie.Need-trail-step-requires
-trail-step-requires c κs = search needs
+plan-of-requires : tie.Need-plan-of-requires
+plan-of-requires c κs = search needs
 
-row-count-requires : tie.Need-row-count-requires
-row-count-requires c κs = search needs
+ia8-table-requires : tie.Need-ia8-table-requires
+ia8-table-requires c κs = search needs
 
-row-width-requires : tie.Need-row-width-requires
-row-width-requires c κs = search needs
+format-of-requires : tie.Need-format-of-requires
+format-of-requires c κs = let t = may (c .before .before .before .before .before) .early .tile in (t .format, t .inside .siz)
 
 decode-rows-requires : tie.Need-decode-rows-requires
 decode-rows-requires c κs =
-    let x = c .before .before in
-    let n = x .before .before .before in
-    let w = may (n .before .before .before) in
-    let a = n .before .before .before .before .before .before .before .before .before .before .args in
-    let e = w .early in (
-      record { whole = e .whole; inside = e .tile .inside; format = n .before .before .format-of .ensures; knows = w .knows; slot = e .slot },
-      (
-        rw (x .row-width .ensures) (narrow (a .lookup) _ (e .tile .inside)),
-        (
-          rw (← n .before .tile-reads .ensures .0) (x .before .before .trail-step .ensures),
-          (
-            rw (x .row-width .ensures, x .before .row-count .ensures) (w .room),
-            rw (x .before .before .trail-step .ensures, n .before .tile-reads .ensures .0, x .row-width .ensures, x .before .row-count .ensures) (w .trail-room),
-          ),
-        ),
-      ),
+    let l = c .before .before .before .before .before in
+    let w = may (l .before .before .before) in
+    let each = l .before .before .tile-reads .ensures .0 in
+    rw (l .plan-of .ensures) (
+      ready _ _ _ _ _ _ _ _ _ _ _ w (c .before .before .before .before .ia8-table .ensures) (c .before .before .format-of .ensures) each,
+      (w .room, rw each (w .trail-room)),
     )
 
-cast-t27 : tie.Need-cast-t27
-cast-t27 c = let n = c .before .before .before .before .before .before .before .before .before .before in omega (arith, few n)
+cast-t28 : tie.Need-cast-t28
+cast-t28 c = omega (arith, few (c .before .before .before .before .before .before .before .before .before .before .before))
 
 same-length-3 : tie.Need-same-length-3
 same-length-3 c = search needs
@@ -91,14 +78,13 @@ same-length-4 c = search needs
 returns-2 : tie.Need-returns-2
 returns-2 c =
     let d = c .before .before .before .before in
-    let x = d .before .before .before in
-    let n = x .before .before .before in
-    let s = n .before .before .before .before .before .before .before .before .before .before in
-    let a = s .args in
-    done (a .lookup) (a .bank .now) (tileOf (a .tile)) (a .«tlut-fmt») (a .lane) (a .out .now) (a .seen .now) (a .observe) _ _ _ (none (n .before .before .before))
+    let l = d .before .before .before .before .before .before in
+    let n = l .before in
+    let a = n .before .before .before .before .before .before .before .before .before .args in
+    done (a .lookup) (a .bank .now) (tileOf (a .tile)) (a .«tlut-fmt») (a .lane) (a .out .now) (a .seen .now) (a .observe) _ _ _ (none (n .before .before))
     (rw (n .before .tile-reads .ensures .0, n .texel-count .ensures .0))
-    (rw (← x .row-width .ensures, ← x .before .row-count .ensures) (d .decode-rows .ensures .0))
-    (rw (← x .row-width .ensures, ← x .before .row-count .ensures) (d .decode-rows .ensures .1))
+    (rw (l .plan-of .ensures) at (d .decode-rows .ensures .0))
+    (rw (l .plan-of .ensures) at (d .decode-rows .ensures .1))
 
 pub decode-picture-spec : {M : Type 1} → statement M
 decode-picture-spec =
@@ -108,15 +94,14 @@ decode-picture-spec =
     same-length
     same-length-2
     returns
-    format-of-requires
     tile-reads-requires
     texel-count-requires
     mul-reads
-    trail-step-requires
-    row-count-requires
-    row-width-requires
+    plan-of-requires
+    ia8-table-requires
+    format-of-requires
     decode-rows-requires
-    cast-t27
+    cast-t28
     same-length-3
     same-length-4
     returns-2)

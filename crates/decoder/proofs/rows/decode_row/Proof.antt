@@ -1,43 +1,42 @@
 -- `decoder::rows::decode_row` writes one texel after the other, each through the part that starts where the ones before it end.
 use Rattle.decoder.proofs.Placed.{row-given, row-told}
 use Rattle.decoder.proofs.Parts.{begins, again, room, part-ends}
-use Rattle.decoder.specs.Rows.{rowTexel, rowOf, told}
-use Rattle.rdp.specs.View.{tileOf}
+use Rattle.decoder.specs.Rows.{rowOf, oneTexel, told}
 use Rattle.rules.specs.Reading.{given, trail, upTo}
 use Rattle.rules.specs.Base.{over}
 use lib.ListN.{length}
 use native.Mathlib.Omega.{arith}
 use Prim.Native.Nat.{ℕ, _+_, _-_, _*_, _<_, _≤_}
-use mathlib.Core.Path.{_≡_, refl, sym, _∙_}
+use mathlib.Core.Path.{_≡_, refl}
 use Rattle.decoder.proofs.rows.decode_row.Statement.{statement}
 use Rattle.decoder.proofs.rows.decode_row.Tie as tie
 
 abbrev Inv-loop : tie.InvT-loop
-Inv-loop bank tile format tlut-fmt lane row width observe step out₀ seen₀ i₀ out seen i =
+Inv-loop bank ia8 plan format row out₀ seen₀ width step i₀ out seen i =
     (i ≤ width)
-    × (out ≡ over (given (upTo i (rowTexel (tileOf tile) tlut-fmt lane row)) bank) out₀)
-    × (seen ≡ over (told observe (trail (upTo i (rowTexel (tileOf tile) tlut-fmt lane row)) bank)) seen₀)
+    × (out ≡ over (given (upTo i (oneTexel plan row)) bank) out₀)
+    × (seen ≡ over (told (plan .observe) (trail (upTo i (oneTexel plan row)) bank)) seen₀)
     × (length out ≡ length out₀)
     × (length seen ≡ length seen₀)
 
 abbrev μ-loop : tie.MeasureT-loop
-μ-loop bank tile format tlut-fmt lane row width observe step out₀ seen₀ i₀ out seen i = width - i
+μ-loop bank ia8 plan format row out₀ seen₀ width step i₀ out seen i = width - i
 
 -- the function's entry, and where the trail of a texel ends
 abbrev start : tie.At-loop Inv-loop μ-loop → tie.Start Inv-loop μ-loop
 start c = c .before .before .before .before
 
-ends : (c : tie.At-loop Inv-loop μ-loop) → c .loop .i < start c .args .width
-    → start c .args .step * c .loop .i + start c .args .step ≤ length (c .loop .seen)
-ends c h = omega (arith, part-ends (start c .args .step) (c .loop .i) (start c .args .width) h)
+ends : (c : tie.At-loop Inv-loop μ-loop) → c .loop .i < start c .args .plan .width
+    → start c .args .plan .step * c .loop .i + start c .args .plan .step ≤ length (c .loop .seen)
+ends c h = omega (arith, part-ends (start c .args .plan .step) (c .loop .i) (start c .args .plan .width) h)
 
 loop-holds : tie.Need-loop-holds Inv-loop μ-loop
 loop-holds c =
     let s = c .before .before .before in
     let a = s .args in (
       omega arith,
-      begins (row-given (tileOf (a .tile)) (a .«tlut-fmt») (a .lane) (a .bank .now) (a .row) 0 (s .pre .0 .knows)) _,
-      begins (row-told (tileOf (a .tile)) (a .«tlut-fmt») (a .lane) (a .bank .now) (a .row) 0 (a .observe) _ refl) _,
+      begins (row-given (a .plan) (a .bank .now) (a .row) 0 (s .pre .0 .knows)) _,
+      begins (row-told (a .plan) (a .bank .now) (a .row) 0 (s .pre .0 .step)) _,
       refl,
       refl,
     )
@@ -70,10 +69,10 @@ put-texel-requires : tie.Need-put-texel-requires Inv-loop μ-loop
 put-texel-requires c κs =
     let s = c .before .before .before in
     let p = start s .pre in
-    let a = start s .args in
+    let a = start s .args .plan in
     let bytes = room 4 (s .loop .i) (a .width) (s .loop .out) (omega arith) (omega arith) in
     let told = room (a .step) (s .loop .i) (a .width) (s .loop .seen) (omega arith) (omega arith) in
-    (p .0, (p .1 .0, (omega arith, (bytes, rw (← p .1 .1 .1 .0) told))))
+    (p .0, (p .1 .0, (omega arith, (bytes, told))))
 
 add-i : tie.Need-add-i Inv-loop μ-loop
 add-i c = omega arith
@@ -87,10 +86,8 @@ loop-again c =
     let a = start s .args in
     let p = start s .pre in
     let t = c .before .before .before .before .put-texel in
-    let given = row-given (tileOf (a .tile)) (a .«tlut-fmt») (a .lane) (a .bank .now) (a .row) (a .width) (p .0 .knows) in
-    let told = row-told (tileOf (a .tile)) (a .«tlut-fmt») (a .lane) (a .bank .now) (a .row) (a .width) (a .observe) (a .step) (p .1 .1 .1 .0) in
-    let o = again given (s .loop .i) _ _ _ (omega arith) (p .1 .1 .1 .1 .0) (s .loop .inv .1) (t .ensures .0) in
-    let q = again told (s .loop .i) _ _ _ (omega arith) (p .1 .1 .1 .1 .1) (s .loop .inv .2) (t .ensures .1) in
+    let o = again (row-given (a .plan) (a .bank .now) (a .row) (a .plan .width) (p .0 .knows)) (s .loop .i) _ _ _ (omega arith) (p .1 .1 .0) (s .loop .inv .1) (t .ensures .0) in
+    let q = again (row-told (a .plan) (a .bank .now) (a .row) (a .plan .width) (p .0 .step)) (s .loop .i) _ _ _ (omega arith) (p .1 .1 .1) (s .loop .inv .2) (t .ensures .1) in
     (omega arith, o .0, q .0, o .1, q .1)
 
 same-length : tie.Need-same-length Inv-loop μ-loop
@@ -102,7 +99,7 @@ same-length-2 c = c .before .loop .inv .4
 returns : tie.Need-returns Inv-loop μ-loop
 unfolding rowOf
 returns c =
-    let e : c .before .loop .i ≡ start (c .before) .args .width = omega arith in
+    let e : c .before .loop .i ≡ start (c .before) .args .plan .width = omega arith in
     (rw (← e) (c .before .loop .inv .1), rw (← e) (c .before .loop .inv .2))
 
 pub decode-row-spec : {M : Type 1} → statement M

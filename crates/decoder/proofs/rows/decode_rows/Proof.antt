@@ -1,95 +1,106 @@
 -- `decoder::rows::decode_rows` writes one row after the other, each through the part that starts where the ones before it end.
 use Rattle.decoder.proofs.Placed.{rows-given, rows-told}
 use Rattle.decoder.proofs.Parts.{begins, again, room, part-ends}
-use Rattle.decoder.specs.Rows.{rowAt, rowOf, rowsOf, told}
+use Rattle.decoder.proofs.Counted.{step-few}
+use Rattle.decoder.specs.Rows.{rowAt, rowsOf, oneRow}
+use Rattle.decoder.specs.declared.plan.Plan.{Plan}
 use Rattle.rdp.specs.View.{tileOf}
-use Rattle.rules.specs.Reading.{given, trail, upTo}
+use Rattle.rules.specs.Reading.{Reading, given, trail, upTo}
 use Rattle.rules.specs.Base.{over}
 use lib.ListN.{length}
 use native.Mathlib.Omega.{arith}
+use native.Mathlib.Nat.{mul-le-mul}
 use Prim.Native.Nat.{ℕ, _+_, _-_, _*_, _<_, _≤_}
 use mathlib.Core.Path.{_≡_, refl}
 use Rattle.decoder.proofs.rows.decode_rows.Statement.{statement}
 use Rattle.decoder.proofs.rows.decode_rows.Tie as tie
 
+-- row y of a plan
+abbrev rowAtOf : Plan → ℕ → Reading
+rowAtOf p y = oneRow p (rowAt (p .lookup) (tileOf (p .tile)) (p .«tlut_fmt») y)
+
 abbrev Inv-loop : tie.InvT-loop
-Inv-loop bank tile format tlut-fmt lane lookup rows width observe step out₀ seen₀ y₀ out seen y =
+Inv-loop bank ia8 plan format out₀ seen₀ rows bytes told y₀ out seen y =
     (y ≤ rows)
-    × (out ≡ over (given (upTo y (λ k. rowOf (tileOf tile) tlut-fmt lane width (rowAt lookup (tileOf tile) tlut-fmt k))) bank) out₀)
-    × (seen ≡ over (told observe (trail (upTo y (λ k. rowOf (tileOf tile) tlut-fmt lane width (rowAt lookup (tileOf tile) tlut-fmt k))) bank)) seen₀)
+    × (out ≡ over (given (upTo y (rowAtOf plan)) bank) out₀)
+    × (seen ≡ over (Rattle.decoder.specs.Rows.told (plan .observe) (trail (upTo y (rowAtOf plan)) bank)) seen₀)
     × (length out ≡ length out₀)
     × (length seen ≡ length seen₀)
 
 abbrev μ-loop : tie.MeasureT-loop
-μ-loop bank tile format tlut-fmt lane lookup rows width observe step out₀ seen₀ y₀ out seen y = rows - y
+μ-loop bank ia8 plan format out₀ seen₀ rows bytes told y₀ out seen y = rows - y
 
 -- the function's entry, and where a row of the picture and its trail end
 abbrev start : tie.At-loop Inv-loop μ-loop → tie.Start Inv-loop μ-loop
-start c = c .before .before .before .before
+start c = c .before .before .before .before .before .before
 
-ends : (c : tie.At-loop Inv-loop μ-loop) → c .loop .y < start c .args .rows
-    → 4 * start c .args .width * c .loop .y + 4 * start c .args .width ≤ length (c .loop .out)
-ends c h = omega (arith, part-ends (4 * start c .args .width) (c .loop .y) (start c .args .rows) h)
+ends : (c : tie.At-loop Inv-loop μ-loop) → let p = start c .args .plan in c .loop .y < p .rows
+    → 4 * p .width * c .loop .y + 4 * p .width ≤ length (c .loop .out)
+ends c h = let p = start c .args .plan in omega (arith, part-ends (4 * p .width) (c .loop .y) (p .rows) h)
 
-told-ends : (c : tie.At-loop Inv-loop μ-loop) → c .loop .y < start c .args .rows
-    → start c .args .step * start c .args .width * c .loop .y + start c .args .step * start c .args .width ≤ length (c .loop .seen)
-told-ends c h = omega (arith, part-ends (start c .args .step * start c .args .width) (c .loop .y) (start c .args .rows) h)
+told-ends : (c : tie.At-loop Inv-loop μ-loop) → let p = start c .args .plan in c .loop .y < p .rows
+    → p .step * p .width * c .loop .y + p .step * p .width ≤ length (c .loop .seen)
+told-ends c h = let p = start c .args .plan in omega (arith, part-ends (p .step * p .width) (c .loop .y) (p .rows) h)
+
+mul-bytes : tie.Need-mul-bytes Inv-loop μ-loop
+mul-bytes c = let p = c .before .before .before .before .pre in omega (arith, p .0 .narrow)
+
+mul-told : tie.Need-mul-told Inv-loop μ-loop
+mul-told c =
+    let s = c .before .before .before .before .before in
+    let step : s .args .plan .step ≤ 8 = rw (s .pre .0 .step) (step-few (s .args .plan .observe) (tileOf (s .args .plan .tile)) (s .args .plan .«tlut_fmt»)) in
+    omega (arith, mul-le-mul step (s .pre .0 .narrow))
 
 loop-holds : tie.Need-loop-holds Inv-loop μ-loop
 loop-holds c =
-    let s = c .before .before .before in
-    let a = s .args in (
+    let s = c .before .before .before .before .before in
+    let a = s .args in
+    let row = rowAt (a .plan .lookup) (tileOf (a .plan .tile)) (a .plan .«tlut_fmt») in (
       omega arith,
-      begins (rows-given (tileOf (a .tile)) (a .«tlut-fmt») (a .lane) (a .bank .now) (rowAt (a .lookup) (tileOf (a .tile)) (a .«tlut-fmt»)) (a .width) 0 (s .pre .0 .knows)) _,
-      begins (rows-told (tileOf (a .tile)) (a .«tlut-fmt») (a .lane) (a .bank .now) (rowAt (a .lookup) (tileOf (a .tile)) (a .«tlut-fmt»)) (a .width) 0 (a .observe) _ refl) _,
+      begins (rows-given (a .plan) (a .bank .now) row 0 (s .pre .0 .knows)) _,
+      begins (rows-told (a .plan) (a .bank .now) row 0 (s .pre .0 .step)) _,
       refl,
       refl,
     )
 
 row-at-requires : tie.Need-row-at-requires Inv-loop μ-loop
-row-at-requires c κs = start (c .before) .pre .0 .inside
+row-at-requires c κs = start (c .before .before) .pre .0 .inside
 
 mul-o : tie.Need-mul-o Inv-loop μ-loop
-mul-o c = omega arith
-
-mul-o-2 : tie.Need-mul-o-2 Inv-loop μ-loop
-mul-o-2 c = omega (arith, ends (c .before .before) (omega arith))
+mul-o c = let s = c .before .before .before in omega (arith, ends s (omega arith), start s .good)
 
 mul-s : tie.Need-mul-s Inv-loop μ-loop
-mul-s c = omega (arith, told-ends (c .before .before) (omega arith))
-
-mul-s-2 : tie.Need-mul-s-2 Inv-loop μ-loop
-mul-s-2 c = omega (arith, told-ends (c .before .before) (omega arith))
+mul-s c = let s = c .before .before .before in omega (arith, told-ends s (omega arith), start s .good)
 
 sub-decode-row : tie.Need-sub-decode-row Inv-loop μ-loop
-sub-decode-row c = omega (arith, ends (c .before .before) (omega arith))
+sub-decode-row c = omega (arith, ends (c .before .before .before) (omega arith))
 
 part-decode-row-start : tie.Need-part-decode-row-start Inv-loop μ-loop
-part-decode-row-start c = omega (arith, ends (c .before .before) (omega arith))
+part-decode-row-start c = omega (arith, ends (c .before .before .before) (omega arith))
 
 part-decode-row-end : tie.Need-part-decode-row-end Inv-loop μ-loop
-part-decode-row-end c = omega (arith, ends (c .before .before) (omega arith))
+part-decode-row-end c = omega (arith, ends (c .before .before .before) (omega arith))
 
 sub-decode-row-2 : tie.Need-sub-decode-row-2 Inv-loop μ-loop
-sub-decode-row-2 c = omega (arith, told-ends (c .before .before .before) (omega arith))
+sub-decode-row-2 c = omega (arith, told-ends (c .before .before .before .before) (omega arith))
 
 part-decode-row-start-2 : tie.Need-part-decode-row-start-2 Inv-loop μ-loop
-part-decode-row-start-2 c = omega (arith, told-ends (c .before .before .before) (omega arith))
+part-decode-row-start-2 c = omega (arith, told-ends (c .before .before .before .before) (omega arith))
 
 part-decode-row-end-2 : tie.Need-part-decode-row-end-2 Inv-loop μ-loop
-part-decode-row-end-2 c = omega (arith, told-ends (c .before .before .before) (omega arith))
+part-decode-row-end-2 c = omega (arith, told-ends (c .before .before .before .before) (omega arith))
 
 decode-row-requires : tie.Need-decode-row-requires Inv-loop μ-loop
 decode-row-requires c κs =
-    let s = c .before .before .before .before in
+    let s = c .before .before .before .before .before in
     let p = start s .pre in
-    let a = start s .args in
+    let a = start s .args .plan in
     let bytes = room (4 * a .width) (s .loop .y) (a .rows) (s .loop .out) (omega arith) (omega arith) in
     let told = room (a .step * a .width) (s .loop .y) (a .rows) (s .loop .seen) (omega arith) (omega arith) in
-    (p .0, (c .before .before .row-at .ensures .1, (p .1 .0, (p .1 .1 .0, (bytes, told)))))
+    (p .0, (c .before .before .row-at .ensures .1, (bytes, told)))
 
 add-y : tie.Need-add-y Inv-loop μ-loop
-add-y c = omega arith
+add-y c = omega (arith, start (c .before .before .before .before .before .before .before .before .before .before) .pre .0 .short)
 
 loop-less : tie.Need-loop-less Inv-loop μ-loop
 loop-less c = omega arith
@@ -97,14 +108,13 @@ loop-less c = omega arith
 loop-again : tie.Need-loop-again Inv-loop μ-loop
 loop-again c =
     let r = c .before .before .before .before .before .before .before in
-    let s = r .before .before in
+    let s = r .before .before .before in
     let a = start s .args in
     let p = start s .pre in
     let t = c .before .before .before .before .decode-row in
-    let given = rows-given (tileOf (a .tile)) (a .«tlut-fmt») (a .lane) (a .bank .now) (rowAt (a .lookup) (tileOf (a .tile)) (a .«tlut-fmt»)) (a .width) (a .rows) (p .0 .knows) in
-    let told = rows-told (tileOf (a .tile)) (a .«tlut-fmt») (a .lane) (a .bank .now) (rowAt (a .lookup) (tileOf (a .tile)) (a .«tlut-fmt»)) (a .width) (a .rows) (a .observe) (a .step) (p .1 .1 .0) in
-    let o = again given (s .loop .y) _ _ _ (omega arith) (p .1 .1 .1 .0) (s .loop .inv .1) (rw (r .row-at .ensures .0) at (t .ensures .0)) in
-    let q = again told (s .loop .y) _ _ _ (omega arith) (p .1 .1 .1 .1) (s .loop .inv .2) (rw (r .row-at .ensures .0) at (t .ensures .1)) in
+    let row = rowAt (a .plan .lookup) (tileOf (a .plan .tile)) (a .plan .«tlut_fmt») in
+    let o = again (rows-given (a .plan) (a .bank .now) row (a .plan .rows) (p .0 .knows)) (s .loop .y) _ _ _ (omega arith) (p .1 .0) (s .loop .inv .1) (rw (r .row-at .ensures .0) at (t .ensures .0)) in
+    let q = again (rows-told (a .plan) (a .bank .now) row (a .plan .rows) (p .0 .step)) (s .loop .y) _ _ _ (omega arith) (p .1 .1) (s .loop .inv .2) (rw (r .row-at .ensures .0) at (t .ensures .1)) in
     (omega arith, o .0, q .0, o .1, q .1)
 
 same-length : tie.Need-same-length Inv-loop μ-loop
@@ -116,7 +126,7 @@ same-length-2 c = c .before .loop .inv .4
 returns : tie.Need-returns Inv-loop μ-loop
 unfolding rowsOf
 returns c =
-    let e : c .before .loop .y ≡ start (c .before) .args .rows = omega arith in
+    let e : c .before .loop .y ≡ start (c .before) .args .plan .rows = omega arith in
     (rw (← e) (c .before .loop .inv .1), rw (← e) (c .before .loop .inv .2))
 
 pub decode-rows-spec : {M : Type 1} → statement M
@@ -125,12 +135,12 @@ decode-rows-spec =
     (tie.spec
     Inv-loop
     μ-loop
+    mul-bytes
+    mul-told
     loop-holds
     row-at-requires
     mul-o
-    mul-o-2
     mul-s
-    mul-s-2
     sub-decode-row
     part-decode-row-start
     part-decode-row-end

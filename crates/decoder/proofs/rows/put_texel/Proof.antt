@@ -1,11 +1,11 @@
 -- `decoder::rows::put_texel` writes the texel at its place, and its reads where it is observed.
 use Rattle.decoder.proofs.Placed.{put-given, put-reads, put-count}
-use lib.ListN.{take}
-use Rattle.rules.specs.Base.{over}
-use Rattle.rules.specs.Reading.{given, trail}
-use Rattle.rules.specs.Picture.{readsEach}
+use Rattle.decoder.specs.Rows.{four, oneTexel}
 use Rattle.rdp.specs.View.{tileOf}
-use Rattle.decoder.specs.Rows.{four, rowTexel}
+use Rattle.rules.specs.Picture.{readsEach}
+use Rattle.rules.specs.Reading.{given, trail}
+use Rattle.rules.specs.Base.{over}
+use lib.ListN.{take}
 use native.Mathlib.Omega.{arith}
 use mathlib.Core.Path.{_≡_}
 use borrow.Author.Needs.{needs}
@@ -13,21 +13,21 @@ use Rattle.decoder.proofs.rows.put_texel.Statement.{statement}
 use Rattle.decoder.proofs.rows.put_texel.Tie as tie
 
 -- what the decoded texel gives, tells and counts
-texel-given : (c : tie.After-decode-texel-lane) → let a = c .before .before .before .before .before .before .args in
-    four (c .decode-texel-lane .result .channels) ≡ given (rowTexel (tileOf (a .tile)) (a .«tlut-fmt») (a .lane) (a .row) (a .i)) (a .bank .now)
+texel-given : (c : tie.After-decode-texel-lane) → let a = c .before .before .before .before .before .before .before .args in
+    four (c .decode-texel-lane .result .channels) ≡ given (oneTexel (a .plan) (a .row) (a .i)) (a .bank .now)
 texel-given c =
-    let s = c .before .before .before .before .before .before in
-    put-given _ _ _ _ _ _ _ _ _ (c .before .before .rel .ensures .0) (c .before .x .ensures) (c .decode-texel-lane .ensures) (s .pre .0 .knows)
+    let s = c .before .before .before .before .before .before .before in
+    put-given _ _ _ _ _ _ _ _ _ (c .before .before .before .rel .ensures .0) (c .before .before .x .ensures) (c .decode-texel-lane .ensures) (s .pre .0 .knows)
 
-texel-told : (c : tie.After-decode-texel-lane) → let a = c .before .before .before .before .before .before .args in
-    take (c .decode-texel-lane .result .count) (c .decode-texel-lane .result .reads) ≡ trail (rowTexel (tileOf (a .tile)) (a .«tlut-fmt») (a .lane) (a .row) (a .i)) (a .bank .now)
-texel-told c = put-reads _ _ _ _ _ _ _ _ _ (c .before .before .rel .ensures .0) (c .before .x .ensures) (c .decode-texel-lane .ensures)
+texel-told : (c : tie.After-decode-texel-lane) → let a = c .before .before .before .before .before .before .before .args in
+    take (c .decode-texel-lane .result .count) (c .decode-texel-lane .result .reads) ≡ trail (oneTexel (a .plan) (a .row) (a .i)) (a .bank .now)
+texel-told c = put-reads _ _ _ _ _ _ _ _ _ (c .before .before .before .rel .ensures .0) (c .before .before .x .ensures) (c .decode-texel-lane .ensures)
 
-texel-count : (c : tie.After-decode-texel-lane) → let a = c .before .before .before .before .before .before .args in
-    c .decode-texel-lane .result .count ≡ readsEach (tileOf (a .tile)) (a .«tlut-fmt»)
+texel-count : (c : tie.After-decode-texel-lane) → let a = c .before .before .before .before .before .before .before .args in
+    c .decode-texel-lane .result .count ≡ readsEach (tileOf (a .plan .tile)) (a .plan .«tlut_fmt»)
 texel-count c =
-    let a = c .before .before .before .before .before .before .args in
-    put-count _ _ (a .lane) (a .row) (a .i) (a .bank .now) _ _ _ (c .before .before .rel .ensures .0) (c .before .x .ensures) (c .decode-texel-lane .ensures)
+    let a = c .before .before .before .before .before .before .before .args in
+    put-count _ _ (a .plan .lane) (a .row) (a .i) (a .bank .now) _ _ _ (c .before .before .before .rel .ensures .0) (c .before .before .x .ensures) (c .decode-texel-lane .ensures)
 
 rel-requires : tie.Need-rel-requires
 rel-requires c κs = search needs
@@ -37,9 +37,9 @@ x-requires c κs = search needs
 
 decode-texel-lane-requires : tie.Need-decode-texel-lane-requires
 decode-texel-lane-requires c κs =
-    let s = c .before .before .before .before .before in
+    let s = c .before .before .before .before .before .before in
     let r = s .pre .0 in
-    (r .whole, (r .inside, (r .format, (r .slot, omega arith))))
+    (r .whole, (r .table, (r .inside, (r .format, (r .slot, omega arith)))))
 
 put-channels-requires : tie.Need-put-channels-requires
 put-channels-requires c κs = search needs
@@ -47,8 +47,8 @@ put-channels-requires c κs = search needs
 note-reads-requires : tie.Need-note-reads-requires
 note-reads-requires c κs =
     let d = c .before .before .before .before .before .before .before .before in
-    let s = d .before .before .before .before .before .before in
-    let room = rw (c .before .before .if1 .taken) at (s .pre .1 .1 .1 .1) in
+    let s = d .before .before .before .before .before .before .before in
+    let room = rw (s .pre .0 .step, c .before .before .if1 .taken) at (s .pre .1 .1 .1 .1) in
     ((d .decode-texel-lane .ensures .few, d .decode-texel-lane .ensures .full), rw (texel-count d) room)
 
 same-length : tie.Need-same-length

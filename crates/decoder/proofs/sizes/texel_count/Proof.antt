@@ -1,9 +1,9 @@
--- `decoder::picture::texel_count` is the picture's texels, of which there are few, as a tile's sides are short. Assumes nothing.
+-- `decoder::sizes::texel_count` is the picture's texels, of which there are few, as a tile's sides are short. Assumes nothing.
 use native.Mathlib.Nat.{mul-le-mul}
 use native.Mathlib.Omega.{arith}
 use borrow.Author.Needs.{needs}
-use Rattle.decoder.proofs.picture.texel_count.Statement.{statement}
-use Rattle.decoder.proofs.picture.texel_count.Tie as tie
+use Rattle.decoder.proofs.sizes.texel_count.Statement.{statement}
+use Rattle.decoder.proofs.sizes.texel_count.Tie as tie
 
 cast-result : tie.Need-cast-result
 cast-result c = search needs

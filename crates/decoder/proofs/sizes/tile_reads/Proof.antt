@@ -1,11 +1,11 @@
--- `decoder::picture::tile_reads` is the rule's count, of the tile's format. Assumes nothing.
+-- `decoder::sizes::tile_reads` is the rule's count, of the tile's format. Assumes nothing.
 use Rattle.decoder.proofs.Counted.{reads-few}
 use Rattle.rdp.specs.View.{tileOf}
 use Rattle.rules.specs.Picture.{readsEach}
 use mathlib.Core.Path.{_≡_}
 use borrow.Author.Needs.{needs}
-use Rattle.decoder.proofs.picture.tile_reads.Statement.{statement}
-use Rattle.decoder.proofs.picture.tile_reads.Tie as tie
+use Rattle.decoder.proofs.sizes.tile_reads.Statement.{statement}
+use Rattle.decoder.proofs.sizes.tile_reads.Tie as tie
 
 format-of-requires : tie.Need-format-of-requires
 format-of-requires c κs = search needs

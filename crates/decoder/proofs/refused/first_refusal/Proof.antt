@@ -1,4 +1,4 @@
--- `decoder::picture::first_refusal` is the first refusal: an early one, or what the tests of the buffers say. Assumes nothing.
+-- `decoder::refused::first_refusal` is the first refusal: an early one, or what the tests of the buffers say. Assumes nothing.
 use Rattle.decoder.proofs.Within.{early}
 use Rattle.decoder.proofs.Refusals.{refusal-early, refusal-late}
 use Rattle.decoder.specs.Steps.{Tiled}
@@ -9,8 +9,8 @@ use native.Mathlib.Omega.{arith}
 use native.Mathlib.Nat.{mul-le-mul}
 use mathlib.Core.Path.{_≡_, sym, _∙_}
 use borrow.Author.Needs.{needs}
-use Rattle.decoder.proofs.picture.first_refusal.Statement.{statement}
-use Rattle.decoder.proofs.picture.first_refusal.Tie as tie
+use Rattle.decoder.proofs.refused.first_refusal.Statement.{statement}
+use Rattle.decoder.proofs.refused.first_refusal.Tie as tie
 
 -- nothing was refused early
 none : (c : tie.Else1) → let a = c .before .before .before .before .before .args in

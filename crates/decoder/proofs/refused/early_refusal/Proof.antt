@@ -1,8 +1,8 @@
--- `decoder::picture::early_refusal` is the first refusal: each step puts one test in front. Assumes nothing.
+-- `decoder::refused::early_refusal` is the first refusal: each step puts one test in front. Assumes nothing.
 use Rattle.rules.specs.Refusal.{first}
 use borrow.Author.Needs.{needs}
-use Rattle.decoder.proofs.picture.early_refusal.Statement.{statement}
-use Rattle.decoder.proofs.picture.early_refusal.Tie as tie
+use Rattle.decoder.proofs.refused.early_refusal.Statement.{statement}
+use Rattle.decoder.proofs.refused.early_refusal.Tie as tie
 
 validate-tlut-requires : tie.Need-validate-tlut-requires
 validate-tlut-requires c κs = search needs

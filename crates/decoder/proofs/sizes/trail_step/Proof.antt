@@ -1,7 +1,7 @@
--- `decoder::picture::trail_step` is two bytes a read, or none. Assumes nothing.
+-- `decoder::sizes::trail_step` is two bytes a read, or none. Assumes nothing.
 use borrow.Author.Needs.{needs}
-use Rattle.decoder.proofs.picture.trail_step.Statement.{statement}
-use Rattle.decoder.proofs.picture.trail_step.Tie as tie
+use Rattle.decoder.proofs.sizes.trail_step.Statement.{statement}
+use Rattle.decoder.proofs.sizes.trail_step.Tie as tie
 
 mul-result : tie.Need-mul-result
 mul-result c = search needs
