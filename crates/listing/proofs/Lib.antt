@@ -1,0 +1,4 @@
+-- Laws of this crate that belong to no one function.
+pub mod Lines
+pub mod Same
+pub mod Writes
