@@ -3,4 +3,5 @@ pub mod Decimals
 pub mod Digits
 pub mod Lines
 pub mod Same
+pub mod Parts
 pub mod Writes

@@ -1,12 +1,13 @@
--- A list written over the front of a buffer, one element more at a time.
-use mathlib.Core.Path.{_≡_, ap, sym, _∙_}
+-- A list written over the front of a buffer, an element or a part more at a time.
+use mathlib.Core.Path.{_≡_, refl, sym, _∙_}
 use mathlib.Core.List.{List, [], _∷_, _++_, append-assoc}
-use Prim.Native.Nat.{ℕ, suc, _+_, _<_, _≤_}
+use Prim.Native.Nat.{ℕ, suc, _+_, _-_, _<_, _≤_}
 use native.Mathlib.Numerals.{add-one}
 use native.Mathlib.Omega.{arith}
-use lib.ListN.{length, getD, set, take, drop, length-append}
-use lib.Seq.{take-suc, drop-cons, set-at, length-take-le}
+use lib.ListN.{length, getD, set, take, drop, length-append, take-append-drop}
+use lib.Seq.{take-suc, drop-cons, set-at, take-at, drop-append-add, drop-drop, length-take-le}
 use Rattle.rules.specs.Base.{over}
+use Rattle.rules.proofs.Over.{over-back}
 
 -- a store where the list ends
 pub over-one : (a old : List ℕ) (v n : ℕ) → length a ≡ n → n < length old → set (over a old) n v ≡ over (a ++ (v ∷ [])) old
@@ -20,3 +21,31 @@ over-copy b old xs i h l e =
     let k : i < length old = omega arith in
     let n : i ≤ length b = omega arith in
     rw (e, over-one (take i b) old (getD b i 0) i (length-take-le i b n) k, add-one, take-suc b i 0 h)
+
+-- a text stands over the front of a buffer and ends at `at`
+pub record Wrote (text old : List ℕ) (at : ℕ) (xs : List ℕ) : Type 0 where
+  pub is : xs ≡ over text old
+  pub end : at ≡ length text
+
+-- nothing is written yet
+pub wrote-none : (old : List ℕ) → Wrote [] old 0 old
+unfolding over
+wrote-none old = record { is = refl; end = refl }
+
+-- a part more, written where the text ends
+pub wrote-more : (text old : List ℕ) (at : ℕ) (xs part ys : List ℕ) (end : ℕ) → Wrote text old at xs → end ≡ at + length part
+    → ys ≡ over (take at xs ++ part) xs → Wrote (text ++ part) old end ys
+unfolding over
+wrote-more text old at xs part ys end w e h =
+    record {
+      is = h ∙ rw (w .is, take-at text _ at (sym (w .end)), length-append, drop-append-add, drop-drop);
+      end = rw (e, w .end, length-append);
+    }
+
+-- a part that was lent from `at` on comes back with v over its front
+pub over-lent : (v xs ys : List ℕ) (at : ℕ) → at ≤ length xs → ys ≡ over v (take (length xs - at) (drop at xs))
+    → take at xs ++ (ys ++ drop (length xs - at) (drop at xs)) ≡ over (take at xs ++ v) xs
+unfolding over
+over-lent v xs ys at h e =
+    let n : length (take at xs) ≡ at = length-take-le at xs h in
+    over-back (take at xs) v xs xs ys at (sym (rw (n, take-append-drop))) n e

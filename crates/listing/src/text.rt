@@ -30,7 +30,8 @@ fn put_digits(n: u32, out: &mut [u8]) -> usize
 fn put_number(n: u32, after: u8, out: &mut [u8], at: usize) -> usize
     requires { ⌜ at + 11 ≤ length (now out) ⌝ }
     ensures { λ r. ⌜ r ≡ at + length (decimal n ++ (after ∷ [])) ⌝ }
-    ensures { λ _. ⌜ now (out .exit) ≡ take at (now (out .entry)) ++ over (decimal n ++ (after ∷ [])) (drop at (now (out .entry))) ⌝ }
+    ensures { λ r. ⌜ r ≤ at + 11 ⌝ }
+    ensures { λ _. ⌜ now (out .exit) ≡ over (take at (now (out .entry)) ++ (decimal n ++ (after ∷ []))) (now (out .entry)) ⌝ }
 {
     let end = at + put_digits(n, &mut out[at..]);
     out[end] = after;
