@@ -2,6 +2,7 @@
 pub mod Decimals
 pub mod Digits
 pub mod Lines
+pub mod Listed
 pub mod Same
 pub mod Parts
 pub mod Writes

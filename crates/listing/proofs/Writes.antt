@@ -32,6 +32,13 @@ pub wrote-none : (old : List ℕ) → Wrote [] old 0 old
 unfolding over
 wrote-none old = record { is = refl; end = refl }
 
+-- the first bytes of a buffer stand where they stood
+pub wrote-start : (out : List ℕ) (at : ℕ) → at ≤ length out → Wrote (take at out) out at out
+unfolding over
+wrote-start out at h =
+    let n : length (take at out) ≡ at = length-take-le at out h in
+    record { is = sym (rw (n, take-append-drop)); end = sym n }
+
 -- a part more, written where the text ends
 pub wrote-more : (text old : List ℕ) (at : ℕ) (xs part ys : List ℕ) (end : ℕ) → Wrote text old at xs → end ≡ at + length part
     → ys ≡ over (take at xs ++ part) xs → Wrote (text ++ part) old end ys

@@ -1,13 +1,11 @@
 // A line as text: decimal numbers with a space between them and a line's end after the last.
 ghost use mathlib.Core.Path.{_≡_};
-ghost use mathlib.Core.Bool.{cond};
 ghost use mathlib.Core.List.{[], _∷_, _++_};
-ghost use Prim.Native.Nat.{_+_, _<_, _≤_};
-ghost use lib.Dec.{ltb};
-ghost use lib.ListN.{length, take, drop};
+ghost use Prim.Native.Nat.{_+_, _≤_};
+ghost use lib.ListN.{length, take};
 ghost use Rattle.rules.specs.Base.{over};
 ghost use Rattle.rules.specs.Lister.{decimal, lineText, recordLine};
-ghost use Rattle.listing.specs.View.{numbersOf};
+ghost use Rattle.listing.specs.View.{numbersOf, fitted};
 use crate::line::Line;
 use crate::line::record_line;
 
@@ -38,14 +36,27 @@ fn put_number(n: u32, after: u8, out: &mut [u8], at: usize) -> usize
     end + 1
 }
 
-// A line's text at the front of `out`, and its length.
-fn put_line(line: Line, out: &mut [u8]) -> usize
-    requires { ⌜ 44 ≤ length (now out) ⌝ }
-    ensures { λ r. ⌜ r ≡ length (lineText (numbersOf line)) ⌝ }
-    ensures { λ _. ⌜ now (out .exit) ≡ over (lineText (numbersOf line)) (now (out .entry)) ⌝ }
+// A line's text from `at` on. The new end is answered.
+pub(crate) fn put_line(line: Line, out: &mut [u8], at: usize) -> usize
+    requires { ⌜ at + 44 ≤ length (now out) ⌝ }
+    ensures { λ r. ⌜ r ≡ at + length (lineText (numbersOf line)) ⌝ }
+    ensures { λ r. ⌜ r ≤ at + 44 ⌝ }
+    ensures { λ _. ⌜ now (out .exit) ≡ over (take at (now (out .entry)) ++ lineText (numbersOf line)) (now (out .entry)) ⌝ }
 {
-    let refusal = put_number(line.refusal, 32, out, 0);
+    let refusal = put_number(line.refusal, 32, out, at);
     let flag = put_number(line.flag, 32, out, refusal);
     let kept = put_number(line.kept, 32, out, flag);
     put_number(line.texels, 10, out, kept)
+}
+
+// The text of a record's line at the front of `out`, and its length. A buffer of fewer than 44 bytes is left as it was
+// lent, and 0 is answered.
+pub fn line_text(bytes: &[u8], out: &mut [u8]) -> usize
+    ensures { λ r. ⌜ r ≡ length (fitted 44 (lineText (recordLine (now (bytes .entry)))) (now (out .entry))) ⌝ }
+    ensures { λ _. ⌜ now (out .exit) ≡ over (fitted 44 (lineText (recordLine (now (bytes .entry)))) (now (out .entry))) (now (out .entry)) ⌝ }
+{
+    if out.len() < 44 {
+        return 0;
+    }
+    put_line(record_line(bytes), out, 0)
 }
