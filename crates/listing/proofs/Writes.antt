@@ -1,10 +1,10 @@
 -- A list written over the front of a buffer, an element or a part more at a time.
-use mathlib.Core.Path.{_≡_, refl, sym, _∙_}
+use mathlib.Core.Path.{_≡_, refl, ap, sym, _∙_}
 use mathlib.Core.List.{List, [], _∷_, _++_, append-assoc}
 use Prim.Native.Nat.{ℕ, suc, _+_, _-_, _<_, _≤_}
 use native.Mathlib.Numerals.{add-one}
 use native.Mathlib.Omega.{arith}
-use lib.ListN.{length, getD, set, take, drop, length-append, take-append-drop}
+use lib.ListN.{length, getD, set, take, drop, length-append, length-drop, take-append-drop}
 use lib.Seq.{take-suc, drop-cons, set-at, take-at, drop-append-add, drop-drop, length-take-le}
 use Rattle.rules.specs.Base.{over}
 use Rattle.rules.proofs.Over.{over-back}
@@ -56,3 +56,8 @@ unfolding over
 over-lent v xs ys at h e =
     let n : length (take at xs) ≡ at = length-take-le at xs h in
     over-back (take at xs) v xs xs ys at (sym (rw (n, take-append-drop))) n e
+
+-- what was written over a buffer that kept its length had room in it
+pub over-within : (v old xs : List ℕ) → xs ≡ over v old → length xs ≡ length old → length v ≤ length old
+unfolding over
+over-within v old xs e n = omega (arith, simp (length-append, length-drop) at (ap length e))
