@@ -40,3 +40,14 @@ need_original() {
 kit() {
     echo "${RATTLE_HOME:-$(dirname "$(dirname "$(readlink -f "$(command -v rt)")")")}"
 }
+
+# run_x86_64 PROGRAM [ARGUMENTS..]: runs a program of x86-64 code, on another processor under the toolchain's emulator.
+run_x86_64() {
+    if [ "$(uname -m)" = x86_64 ]; then
+        "$@"
+    else
+        local tools
+        tools=$(kit)/on/$(uname -m)/toolchain
+        "$tools/bin/qemu-x86_64" "$tools/lib/ld-linux-x86-64.so.2" --library-path "$tools/lib" "$@"
+    fi
+}

@@ -1,0 +1,48 @@
+// The sixteen bytes before a record's bank: the tile and the mode. Past a record's end every byte is read as zero.
+ghost use mathlib.Core.Path.{_≡_};
+ghost use Prim.Native.Nat.{_<_};
+ghost use lib.ListN.{getD};
+ghost use Rattle.rules.specs.Lister.{two, recordTile, recordMode};
+ghost use Rattle.rdp.specs.View.{tileOf};
+use rdp::tile::TileDescriptor;
+use rdp::units::LineWords;
+use rdp::units::WordAddr;
+
+fn byte_at(bytes: &[u8], k: usize) -> u32
+    ensures { λ r. ⌜ r ≡ getD (now (bytes .entry)) k 0 ⌝ }
+    ensures { λ r. ⌜ r < 256 ⌝ }
+{
+    if k < bytes.len() { bytes[k] as u32 } else { 0 }
+}
+
+// Two bytes, big end first.
+fn two_at(bytes: &[u8], k: usize) -> u32
+    requires { ⌜ k < 16 ⌝ }
+    ensures { λ r. ⌜ r ≡ two (now (bytes .entry)) k ⌝ }
+{
+    byte_at(bytes, k) * 256 + byte_at(bytes, k + 1)
+}
+
+pub fn record_tile(bytes: &[u8]) -> TileDescriptor
+    ensures { λ r. ⌜ tileOf r ≡ recordTile (now (bytes .entry)) ⌝ }
+{
+    TileDescriptor {
+        fmt: byte_at(bytes, 0),
+        siz: byte_at(bytes, 1),
+        palette: byte_at(bytes, 2),
+        cms: byte_at(bytes, 4),
+        cmt: byte_at(bytes, 5),
+        masks: byte_at(bytes, 6),
+        maskt: byte_at(bytes, 7),
+        line: LineWords(two_at(bytes, 8)),
+        tmem_addr: WordAddr(two_at(bytes, 10)),
+        width: two_at(bytes, 12),
+        height: two_at(bytes, 14),
+    }
+}
+
+pub fn record_mode(bytes: &[u8]) -> u32
+    ensures { λ r. ⌜ r ≡ recordMode (now (bytes .entry)) ⌝ }
+{
+    byte_at(bytes, 3)
+}
