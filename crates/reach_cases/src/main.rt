@@ -3,9 +3,9 @@ ghost use Prim.Native.Nat.{_<_};
 use rdp::tile::TileDescriptor;
 use rdp::units::LineWords;
 use rdp::units::WordAddr;
-use tmem::has_load;
-use tmem::lane;
-use tmem::reach;
+use reach::has_load;
+use reach::lane;
+use reach::reach;
 
 mod show;
 

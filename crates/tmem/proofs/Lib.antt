@@ -1,11 +1,8 @@
--- Laws that the proofs of this crate cite: of loads, then of reach.
+-- Laws of the parts of a load.
+pub mod Again
 pub mod Carry
 pub mod Indices
 pub mod Places
-pub mod Runs
 pub mod Rows
+pub mod Runs
 pub mod Within
-pub mod Again
-pub mod Axes
-pub mod Reached
-pub mod Joined

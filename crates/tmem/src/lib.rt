@@ -1,17 +1,11 @@
-// Texture memory, as tmem.rs has it: the bank, the loads into it, reach, has-load and the lane check.
+// Texture memory, as tmem.rs has it: the bank, maps of bits, and the loads.
 pub mod bank;
-mod extent;
-mod fresh;
-pub mod has_load;
-pub mod lane;
 pub mod load;
 mod load_block;
 mod load_tile;
 mod load_tlut;
-mod map;
+pub mod map;
 mod place;
-pub mod reach;
-mod reach_place;
 mod store;
 mod word;
 mod words;

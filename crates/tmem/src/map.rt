@@ -13,11 +13,22 @@ pub(crate) fn mark_at(map: &mut [u8], at: usize)
     map[i] = map[i] | 1u8 << at % 8;
 }
 
-// Whether it is set.
-pub(crate) fn is_marked(map: &[u8], at: usize) -> bool
-    requires { ⌜ at / 8 < length (now map) ⌝ }
+// The address's bit is set; past the map's end nothing is.
+pub fn set_mark(map: &mut [u8], at: usize)
+    ensures { λ _. ⌜ now (map .exit) ≡ marked (now (map .entry)) at ⌝ }
+{
+    if at / 8 < map.len() {
+        mark_at(map, at);
+    }
+}
+
+// Whether it is set; past the map's end it is not.
+pub fn is_marked(map: &[u8], at: usize) -> bool
     ensures { λ r. ⌜ r ≡ isMarked (now (map .entry)) at ⌝ }
 {
     let i = at / 8;
-    (map[i] >> at % 8) % 2 == 1
+    if i < map.len() {
+        return (map[i] >> at % 8) % 2 == 1;
+    }
+    false
 }

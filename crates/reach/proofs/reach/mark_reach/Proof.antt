@@ -1,0 +1,55 @@
+-- `reach::reach::mark_reach` clears the map and marks the list that the flag calls for. Assumes nothing.
+use mathlib.Core.Path.{sym, _∙_}
+use borrow.Author.Needs.{needs}
+use Rattle.rdp.specs.View.{tileOf}
+use Rattle.reach.proofs.Joined.{fresh-marks}
+use Rattle.reach.proofs.Reached.{reach-whole, reach-plain, reach-map}
+use Rattle.reach.proofs.reach.mark_reach.Statement.{statement}
+use Rattle.reach.proofs.reach.mark_reach.Tie as tie
+
+clear-requires : tie.Need-clear-requires
+clear-requires c κs = search needs
+
+from-tile-requires : tie.Need-from-tile-requires
+from-tile-requires c κs = search needs
+
+mark-whole-requires : tie.Need-mark-whole-requires
+mark-whole-requires c κs = search needs
+
+mark-plain-requires : tie.Need-mark-plain-requires
+mark-plain-requires c κs = search needs
+
+same-length : tie.Need-same-length
+same-length c = search needs
+
+returns : tie.Need-returns
+returns c =
+    let d = c .before .before .before .before in
+    let e = d .before .before .before .before in
+    let a = e .before .before .before .args in
+    fresh-marks _ 512 _ _ _ (e .before .before .before .pre .0) (e .clear .ensures) (c .before .before .mark-whole .ensures)
+    ∙ reach-map (tileOf (a .tile)) (a .tlut) _ (reach-whole (tileOf (a .tile)) (a .tlut) (sym (d .before .from-tile .ensures .0) ∙ d .if1 .taken))
+
+same-length-2 : tie.Need-same-length-2
+same-length-2 c = search needs
+
+returns-2 : tie.Need-returns-2
+returns-2 c =
+    let d = c .before .before .before .before in
+    let e = d .before .before .before .before in
+    let a = e .before .before .before .args in
+    fresh-marks _ 512 _ _ _ (e .before .before .before .pre .0) (e .clear .ensures) (c .before .before .mark-plain .ensures)
+    ∙ reach-map (tileOf (a .tile)) (a .tlut) _ (reach-plain (tileOf (a .tile)) (a .tlut) (sym (d .before .from-tile .ensures .0) ∙ d .if1 .left))
+
+pub mark-reach-spec : {M : Type 1} → statement M
+mark-reach-spec =
+    tie.close
+    (tie.spec
+    clear-requires
+    from-tile-requires
+    mark-whole-requires
+    mark-plain-requires
+    same-length
+    returns
+    same-length-2
+    returns-2)
