@@ -5,7 +5,6 @@ use rdp::units::LineWords;
 use rdp::units::WordAddr;
 use reach::has_load;
 use reach::lane;
-use reach::reach;
 
 mod show;
 
@@ -46,7 +45,7 @@ fn tile(fmt: u32, siz: u32, line: u32, tmem_addr: u32, s: Axis, t: Axis) -> Tile
 // and whether the tile has a load where just these bytes are written, and where just the others are.
 fn reached(name: &[u8], tile: TileDescriptor, tlut: u32) {
     let mut map = [255u8; 512];
-    let no = reach::reach(tile, tlut, &mut map);
+    let no = reach::reach::reach(tile, tlut, &mut map);
     let own = has_load::tile_has_load(tile, tlut, &map);
     show::name(name);
     show::number(no as u64);
@@ -167,7 +166,7 @@ fn of_length(map: &mut [u8]) {
     let outside = tile(4, 1, 512, 0, side(2), side(2));
     show::name(b"map length");
     show::number(map.len() as u64);
-    show::number(reach::reach(outside, 0, map) as u64);
+    show::number(reach::reach::reach(outside, 0, map) as u64);
     show::map(map);
     let answer = has_load::tile_has_load(outside, 0, map);
     show::number(answer.refusal as u64);
