@@ -5,4 +5,5 @@ pub mod Lines
 pub mod Listed
 pub mod Same
 pub mod Parts
+pub mod Pieces
 pub mod Writes
