@@ -1,6 +1,6 @@
 -- The picture that is asked for is its rows, and its reads are its texels times the reads of its pair: 3 in modes 2 and 3,
 -- else 1, 2 or 4.
-use mathlib.Core.Path.{_≡_, refl, ap, sym, _∙_}
+use mathlib.Core.Path.{_≡_, refl, ap, _∙_}
 use mathlib.Core.Bool.{Bool, true, false, cond, _&&_}
 use mathlib.Core.List.{List}
 use Prim.Native.Nat.{ℕ, zero, suc, _+_, _*_, _/_, _%_, _≤_}

@@ -1,18 +1,17 @@
 -- What a picture call answers and leaves: refused, or done.
-use mathlib.Core.Path.{_≡_, refl, ap, sym, _∙_}
+use mathlib.Core.Path.{_≡_}
 use mathlib.Core.Bool.{Bool, true, false}
 use mathlib.Core.List.{List, [], _∷_}
 use Prim.Native.Nat.{ℕ, _*_}
-use lib.ListN.{length}
 use Rattle.rules.specs.Base.{over}
 use Rattle.rules.specs.Reading.{given, trail}
 use Rattle.rules.specs.Tile.{Tile}
 use Rattle.rules.specs.Picture.{readsEach}
-use Rattle.rules.specs.Refusal.{Outcome, first}
+use Rattle.rules.specs.Refusal.{first}
 use Rattle.rules.specs.Calls.{pictureCall, observedCall}
 use Rattle.rules.proofs.Refused.{refused-is, done-is}
 use Rattle.decoder.specs.Rows.{rowsOf, told}
-use Rattle.decoder.specs.Asked.{readingBy, texelsBy, widthBy, rowsBy, testsBy, outcomeBy, buffersBy}
+use Rattle.decoder.specs.Asked.{texelsBy, widthBy, rowsBy, testsBy, outcomeBy, buffersBy}
 use Rattle.decoder.proofs.Counted.{reading-by, reads-count}
 
 module _ (looked : Bool) (bank : List ℕ) (t : Tile) (mode lane : ℕ) (out seen : List ℕ) where

@@ -6,7 +6,7 @@ use Rattle.rules.specs.Reading.{given, trail, upTo}
 use Rattle.rules.specs.Base.{over}
 use lib.ListN.{length}
 use native.Mathlib.Omega.{arith}
-use Prim.Native.Nat.{ℕ, _+_, _-_, _*_, _<_, _≤_}
+use Prim.Native.Nat.{_+_, _-_, _*_, _<_, _≤_}
 use mathlib.Core.Path.{_≡_, refl}
 use Rattle.decoder.proofs.rows.decode_row.Statement.{statement}
 use Rattle.decoder.proofs.rows.decode_row.Tie as tie

@@ -1,15 +1,15 @@
 -- `decoder::trail::note_reads` writes one address after the other, each through the part that starts where the ones before it end.
 use lib.Seq.{take-suc}
-use Rattle.decoder.proofs.Parts.{Parts, begins, again, room}
+use Rattle.decoder.proofs.Parts.{Parts, again, room}
 use Rattle.rules.proofs.Readings.{encoded-append}
 use Rattle.rules.specs.Reading.{encoded}
 use Rattle.rules.specs.Base.{over}
-use lib.ListN.{length, getD, take, length-take}
+use lib.ListN.{length, getD, take}
 use native.Mathlib.Omega.{arith}
 use native.Mathlib.Numerals.{add-one}
-use Prim.Native.Nat.{ℕ, _+_, _-_, _*_, _<_, _≤_}
-use mathlib.Core.List.{List, [], _∷_, _++_}
-use mathlib.Core.Path.{_≡_, refl, sym, _∙_}
+use Prim.Native.Nat.{ℕ, _-_, _<_, _≤_}
+use mathlib.Core.List.{List, [], _∷_}
+use mathlib.Core.Path.{_≡_, refl}
 use Rattle.decoder.proofs.trail.note_reads.Statement.{statement}
 use Rattle.decoder.proofs.trail.note_reads.Tie as tie
 

@@ -1,6 +1,6 @@
 -- `texdec::channel::ia4_level` is the rule: the masked nibble moved up by four or by one still fits a byte. Assumes nothing.
 use mathlib.Core.Path.{_≡_}
-use Prim.Native.Nat.{ℕ, _*_, _%_, _≤_}
+use Prim.Native.Nat.{_*_, _%_, _≤_}
 use native.Mathlib.Omega.{arith}
 use lib.Bits.{bitAnd, and-le-r}
 use Rattle.texdec.proofs.channel.ia4_level.Statement.{statement}
