@@ -1,4 +1,5 @@
 // The pictures of tmem.rs: a texel, rows of them, and the two pictures of a tile, alone or with the trail of their reads.
+mod bank_decoder;
 mod direct;
 mod format;
 mod load;

@@ -5,6 +5,7 @@ ghost use Prim.Native.Nat.{_≤_};
 ghost use Rattle.rules.specs.Calls.{sampleTileCall, sampleTileObservedCall, samplingLookupCall, samplingLookupObservedCall};
 ghost use Rattle.rdp.specs.View.{tileOf, answered};
 ghost use Rattle.decoder.specs.Asked.{planBy, outcomeBy, buffersBy};
+use crate::bank_decoder::picture_of;
 use crate::format::format_of;
 use crate::plan::Plan;
 use crate::refused::first_refusal;
@@ -43,7 +44,7 @@ fn plan_of(
 }
 
 // The picture, with the trail of its reads if it is observed, or the refusal with both as they were lent.
-fn decode_picture(
+pub(crate) fn decode_picture(
     bank: &[u8],
     tile: TileDescriptor,
     tlut_fmt: u32,
@@ -84,7 +85,7 @@ pub fn sample_tile_lane(
     ensures { λ r. ⌜ answered r (now (out .exit) ∷ []) ≡ sampleTileCall (now (bank .entry)) (tileOf tile) «tlut_fmt» lane (now (out .entry)) ⌝ }
 {
     let mut none = [0u8; 1];
-    decode_picture(bank, tile, tlut_fmt, lane, false, false, out, &mut none)
+    picture_of(bank, tile, tlut_fmt, lane, false, false, out, &mut none)
 }
 
 // The plain picture of a tile, with the trail of its reads.
@@ -98,7 +99,7 @@ pub fn sample_tile_lane_observed(
 ) -> Answer
     ensures { λ r. ⌜ answered r (now (out .exit) ∷ now (seen .exit) ∷ []) ≡ sampleTileObservedCall (now (bank .entry)) (tileOf tile) «tlut_fmt» lane (now (out .entry)) (now (seen .entry)) ⌝ }
 {
-    decode_picture(bank, tile, tlut_fmt, lane, false, true, out, seen)
+    picture_of(bank, tile, tlut_fmt, lane, false, true, out, seen)
 }
 
 // The lookup of a tile: even row then odd, x parity 0 then 1, rel 0 to 4,095.
@@ -112,7 +113,7 @@ pub fn sampling_lookup_lane(
     ensures { λ r. ⌜ answered r (now (out .exit) ∷ []) ≡ samplingLookupCall (now (bank .entry)) (tileOf tile) «tlut_fmt» lane (now (out .entry)) ⌝ }
 {
     let mut none = [0u8; 1];
-    decode_picture(bank, tile, tlut_fmt, lane, true, false, out, &mut none)
+    picture_of(bank, tile, tlut_fmt, lane, true, false, out, &mut none)
 }
 
 // The lookup of a tile, with the trail of its reads.
@@ -126,5 +127,5 @@ pub fn sampling_lookup_lane_observed(
 ) -> Answer
     ensures { λ r. ⌜ answered r (now (out .exit) ∷ now (seen .exit) ∷ []) ≡ samplingLookupObservedCall (now (bank .entry)) (tileOf tile) «tlut_fmt» lane (now (out .entry)) (now (seen .entry)) ⌝ }
 {
-    decode_picture(bank, tile, tlut_fmt, lane, true, true, out, seen)
+    picture_of(bank, tile, tlut_fmt, lane, true, true, out, seen)
 }

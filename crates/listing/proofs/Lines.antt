@@ -2,17 +2,17 @@
 use mathlib.Core.Path.{_≡_, refl, ap, sym, _∙_}
 use mathlib.Core.Bool.{Bool, cond}
 use mathlib.Core.List.{List, [], _∷_}
-use Prim.Native.Nat.{ℕ, zero, suc, _*_, _≤_}
+use Prim.Native.Nat.{ℕ, zero, suc, _*_}
 use lib.ListN.{length}
 use mir.Val.{boolByte}
 use borrow.Author.Tests.{eq-eqb}
-use Rattle.rules.specs.Tile.{Tile, InRange}
+use Rattle.rules.specs.Tile.{Tile}
 use Rattle.rules.specs.Refusal.{Test, Outcome, first, settle, call}
 use Rattle.rules.specs.Sampling.{flag, texels}
 use Rattle.rules.specs.Calls.{pairTests, unknownPair, keyTests, keyCall}
 use Rattle.rules.specs.Key.{key, keptCount}
 use Rattle.rules.specs.Lister.{lineOf}
-use Rattle.rules.proofs.Refused.{first-next, refused-is, done-is, one-byte}
+use Rattle.rules.proofs.Refused.{refused-is, done-is, one-byte}
 use Rattle.rules.proofs.Allowed.{Allowed, allowed, never-nine}
 
 settled-refusal : (n : ℕ) (numbers : List ℕ) (left lent : List (List ℕ)) → (settle n numbers left lent) .refusal ≡ n

@@ -1,12 +1,12 @@
 -- A line's text from its four numbers, written one after the other.
-use mathlib.Core.Path.{_≡_, refl, ap, sym, _∙_}
+use mathlib.Core.Path.{_≡_, _∙_}
 use mathlib.Core.List.{List, [], _∷_, _++_, append-assoc}
 use Prim.Native.Nat.{ℕ, _+_, _≤_}
 use lib.ListN.{length, take, length-append}
 use lib.Seq.{length-take-le}
 use Rattle.rules.specs.Base.{over}
 use Rattle.rules.specs.Lister.{decimal, lineText}
-use Rattle.listing.proofs.Writes.{Wrote, wrote-start, wrote-more}
+use Rattle.listing.proofs.Writes.{wrote-start, wrote-more}
 
 -- the number n and the byte after it were written from `at` on, and end at `end`
 abbrev pub Put : ℕ → ℕ → List ℕ → ℕ → List ℕ → ℕ → Type 0

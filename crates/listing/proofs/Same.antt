@@ -1,7 +1,7 @@
 -- A record's line depends on what is read of it alone: lists that read the same at every place, zero past their end, have
 -- the same line.
 use mathlib.Core.Path.{_≡_, refl, ap, sym, _∙_}
-use mathlib.Core.List.{List, [], _∷_, _++_}
+use mathlib.Core.List.{List, _∷_, _++_}
 use Prim.Native.Nat.{ℕ, zero, suc, _+_, _-_, _<_, _≤_}
 use native.Mathlib.Omega.{arith}
 use native.Mathlib.Decide.{decLt}
@@ -9,7 +9,6 @@ use lib.ListN.{length, getD, take, drop, replicate, length-take, List·getD-eq-d
 use lib.Seq.{getD-take, getD-drop, getD-append-add}
 use Rattle.rules.specs.Base.{over}
 use Rattle.rules.specs.Reading.{Reading, give, ask, trail}
-use Rattle.rules.specs.Tile.{Tile}
 use Rattle.rules.specs.Key.{keptCount}
 use Rattle.rules.specs.Picture.{picture}
 use Rattle.rules.specs.Lister.{recordTile, recordMode, recordBank, lineOf, recordLine}

@@ -1,9 +1,5 @@
 -- `listing::line::line_of` answers what the key call refuses, or its count with the flag and the texels. Assumes nothing.
-use mathlib.Core.Path.{_≡_, ap, sym, _∙_}
-use lib.ListN.{length}
 use borrow.Author.Needs.{needs}
-use Rattle.rules.proofs.Allowed.{Allowed}
-use Rattle.rdp.specs.View.{tileOf}
 use Rattle.listing.proofs.Lines.{line-allowed, line-refused, line-done}
 use Rattle.listing.proofs.line.line_of.Statement.{statement}
 use Rattle.listing.proofs.line.line_of.Tie as tie

@@ -1,6 +1,4 @@
 -- `listing::line::texel_count` counts a lookup's texels or a plain picture's; 1,024 times 1,024 fits. Assumes nothing.
-use mathlib.Core.Path.{_≡_, refl}
-use mathlib.Core.Bool.{false, cond}
 use native.Mathlib.Omega.{arith}
 use native.Mathlib.Nat.{mul-le-mul}
 use borrow.Author.Needs.{needs}

@@ -1,8 +1,7 @@
 -- `listing::text::put_digits` writes one digit, or those of the number's tenth and one more. Its measure is the number.
 -- Assumes nothing.
-use mathlib.Core.Path.{_∙_, ap}
 use native.Mathlib.Omega.{arith}
-use lib.ListN.{length, length-set}
+use lib.ListN.{length-set}
 use borrow.Author.Needs.{needs}
 use Rattle.listing.proofs.Digits.{Stored, one-digit, digits-more, last-digit}
 use Prim.Native.Nat.{ℕ, _+_, _%_, _<_}

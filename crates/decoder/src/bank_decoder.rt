@@ -1,0 +1,52 @@
+// A decoder that refers to the lent bank, and the function above it: its contract says nothing of a decoder.
+ghost use mathlib.Core.Path.{_≡_};
+ghost use Rattle.rdp.specs.View.{tileOf, answered};
+ghost use Rattle.decoder.specs.Asked.{outcomeBy, buffersBy};
+use crate::picture::decode_picture;
+use rdp::answer::Answer;
+use rdp::tile::TileDescriptor;
+
+pub struct BankDecoder<'a> {
+    pub bytes: &'a [u8],
+}
+
+impl<'a> BankDecoder<'a> {
+    // The decoder of a bank.
+    pub fn new(bytes: &'a [u8]) -> BankDecoder<'a>
+        ensures { λ r. ⌜ r .bytes ≡ bytes .entry ⌝ }
+    {
+        BankDecoder { bytes }
+    }
+
+    // The picture of a tile, with the trail of its reads if it is observed.
+    pub fn picture(
+        self,
+        tile: TileDescriptor,
+        tlut_fmt: u32,
+        lane: u32,
+        lookup: bool,
+        observe: bool,
+        out: &mut [u8],
+        seen: &mut [u8],
+    ) -> Answer
+        ensures { λ r. ⌜ answered r (buffersBy observe (now (out .exit)) (now (seen .exit))) ≡ outcomeBy observe lookup (now (self .entry .bytes)) (tileOf tile) «tlut_fmt» lane (now (out .entry)) (now (seen .entry)) ⌝ }
+    {
+        decode_picture(self.bytes, tile, tlut_fmt, lane, lookup, observe, out, seen)
+    }
+}
+
+// The picture of a tile, from a bank.
+pub(crate) fn picture_of(
+    bank: &[u8],
+    tile: TileDescriptor,
+    tlut_fmt: u32,
+    lane: u32,
+    lookup: bool,
+    observe: bool,
+    out: &mut [u8],
+    seen: &mut [u8],
+) -> Answer
+    ensures { λ r. ⌜ answered r (buffersBy observe (now (out .exit)) (now (seen .exit))) ≡ outcomeBy observe lookup (now (bank .entry)) (tileOf tile) «tlut_fmt» lane (now (out .entry)) (now (seen .entry)) ⌝ }
+{
+    BankDecoder::new(bank).picture(tile, tlut_fmt, lane, lookup, observe, out, seen)
+}
