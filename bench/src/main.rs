@@ -243,6 +243,7 @@ impl Bench {
             ("32-bit tile of 64 by 64", square(0, 3, 0)),
             ("palette tile of 64 by 64", square(2, 1, 2)),
             ("lookup, palette", square(1, 1, 2)),
+            ("8-bit tile of 1,024 by 1,024", Tile { width: 1024, height: 1024, ..square(4, 1, 0) }),
         ] {
             self.key(name, &tile);
         }
