@@ -4,10 +4,11 @@
 #   TULONKASA_ORACLE_SOURCE  the original Rust's directory  (shared/docs/src beside the repository)
 root=$(cd "$(dirname "${BASH_SOURCE[0]}")/.." && pwd)
 TULONKASA_PRODUCT=$(realpath -m "${TULONKASA_PRODUCT:-$root/target/staticlib/libtulonkasa.a}")
-if [ "$(uname -m)" = x86_64 ]; then
+machine=$(uname -m)
+if [ "$machine" = x86_64 ]; then
     TULONKASA_ARCHIVE=${TULONKASA_ARCHIVE:-$TULONKASA_PRODUCT}
 else
-    TULONKASA_ARCHIVE=${TULONKASA_ARCHIVE:-$root/target/staticlib/$(uname -m)/libtulonkasa.a}
+    TULONKASA_ARCHIVE=${TULONKASA_ARCHIVE:-$root/target/staticlib/$machine/libtulonkasa.a}
 fi
 TULONKASA_ARCHIVE=$(realpath -m "$TULONKASA_ARCHIVE")
 TULONKASA_ORACLE_SOURCE=$(realpath -m "${TULONKASA_ORACLE_SOURCE:-$root/../shared/docs/src}")
@@ -43,11 +44,43 @@ kit() {
 
 # run_x86_64 PROGRAM [ARGUMENTS..]: runs a program of x86-64 code, on another processor under the toolchain's emulator.
 run_x86_64() {
-    if [ "$(uname -m)" = x86_64 ]; then
+    if [ "$machine" = x86_64 ]; then
         "$@"
     else
         local tools
-        tools=$(kit)/on/$(uname -m)/toolchain
+        tools=$(kit)/on/$machine/toolchain
         "$tools/bin/qemu-x86_64" "$tools/lib/ld-linux-x86-64.so.2" --library-path "$tools/lib" "$@"
     fi
+}
+
+# retarget KIT FOLDER: in the folder, a toolchain like the installed one whose compiler compiles for this processor.
+retarget() {
+    local kit=$1 shadow=$2 own=on/$machine/toolchain
+    mkdir -p "$shadow/$own/bin"
+    ln -s "$kit"/* "$shadow" 2>/dev/null || true
+    ln -s "$kit/on/$machine"/* "$shadow/on/$machine" 2>/dev/null || true
+    ln -s "$kit/$own"/* "$shadow/$own" 2>/dev/null || true
+    ln -s "$kit/$own/bin"/* "$shadow/$own/bin"
+    rm "$shadow/$own/bin/clang"
+    cat >"$shadow/$own/bin/clang" <<WRAPPER
+#!/usr/bin/env bash
+# The module as text, without what names the other processor; then the same compilation for this one.
+set -euo pipefail
+arguments=()
+for argument in "\$@"; do
+    case \$argument in
+    --target=*) argument=--target=$machine-unknown-linux-gnu ;;
+    -march=*) continue ;;
+    *.bc)
+        "$kit/$own/bin/clang" --target=x86_64-unknown-linux-gnu --no-default-config -Xclang -disable-llvm-passes \
+            -S -emit-llvm -x ir "\$argument" -o "\$argument.ll"
+        sed -i -e '/^target /d' -e 's/"target-cpu"="[^"]*"//; s/"target-features"="[^"]*"//; s/"tune-cpu"="[^"]*"//' "\$argument.ll"
+        argument=\$argument.ll
+        ;;
+    esac
+    arguments+=("\$argument")
+done
+exec "$kit/$own/bin/clang" "\${arguments[@]}" -Wno-override-module
+WRAPPER
+    chmod +x "$shadow/$own/bin/clang"
 }
