@@ -11,9 +11,10 @@ use lib.ListN.{length}
 use Rattle.rules.specs.Base.{odd}
 use Rattle.rules.specs.Reading.{Reading, trail, upTo}
 use Rattle.rules.specs.Tile.{Tile}
-use Rattle.rules.specs.Texdec.{Format, rgba16, rgba32, ci4, ci8, ci16, ia4, ia8, ia16, i4, i8, unknown, formatOf, tlut}
+use Rattle.rules.specs.Texdec.{formatOf, tlut}
 use Rattle.rules.specs.Picture.{texel, rowStart, column, readsEach, formatReads, plain, plainRow, lookup, lookupRow}
 use Rattle.rules.proofs.Readings.{trail-length}
+use Rattle.texel.proofs.Formats.{format-few}
 use Rattle.decoder.specs.Rows.{trailStep, scaleOf, rowAt, rowTexel, rowOf, rowsOf}
 use Rattle.decoder.specs.Asked.{readingBy, texelsBy, widthBy, rowsBy}
 use Rattle.decoder.proofs.Placed.{row-reads}
@@ -67,19 +68,6 @@ pub reads-count : (looked : Bool) (t : Tile) (mode lane : ℕ) (bank : List ℕ)
     → length (trail (readingBy looked t mode lane) bank) ≡ readsEach t mode * texelsBy looked t
 reads-count looked t mode lane bank =
     rw (← reading-by looked t mode lane, ← texels-by looked t) (rows-count looked t mode lane bank (widthBy looked t) (rowsBy looked t))
-
-format-few : (f : Format) → formatReads f ≤ 4
-format-few rgba16 = omega arith
-format-few rgba32 = omega arith
-format-few ci4 = omega arith
-format-few ci8 = omega arith
-format-few ci16 = omega arith
-format-few ia4 = omega arith
-format-few ia8 = omega arith
-format-few ia16 = omega arith
-format-few i4 = omega arith
-format-few i8 = omega arith
-format-few unknown = omega arith
 
 pub reads-few : (t : Tile) (mode : ℕ) → readsEach t mode ≤ 4
 unfolding readsEach

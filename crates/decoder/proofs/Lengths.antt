@@ -13,7 +13,7 @@ use Rattle.rules.specs.Tile.{Tile}
 use Rattle.rules.specs.Texdec.{Format, rgba16, rgba32, ci4, ci8, ci16, ia4, ia8, ia16, i4, i8, unknown, formatOf, known, stepKnows, entryOf, rgba16Texel, ia16Texel}
 use Rattle.rules.specs.Picture.{address, direct, index, entryAt, paletted, texel, formatReads, readsEach}
 use Rattle.decoder.specs.Rows.{four}
-use Rattle.decoder.proofs.Texels.{texel-tlut, texel-direct}
+use Rattle.texel.proofs.Texels.{texel-tlut, texel-direct}
 
 module _ (base palette : ℕ) (odd : Bool) (rel x : ℕ) (bank : List ℕ) where
   direct-four : (f : Format) → known f ≡ true → length (given (direct f base palette odd rel x) bank) ≡ 4

@@ -13,10 +13,11 @@ use Rattle.rules.specs.Picture.{texel, readsEach}
 use Rattle.rdp.specs.View.{tileOf}
 use Rattle.decoder.specs.declared.place.Row.{Row}
 use Rattle.decoder.specs.declared.plan.Plan.{Plan}
-use Rattle.decoder.specs.declared.texel.Texel.{Texel}
-use Rattle.decoder.specs.Steps.{Decodes}
+use Rattle.texel.specs.declared.texel.Texel.{Texel}
+use Rattle.texel.specs.Steps.{Decodes}
 use Rattle.decoder.specs.Rows.{four, relIn, xIn, rowTexel, rowOf, oneTexel, oneRow, told, trailStep}
-use Rattle.decoder.proofs.Parts.{Parts, length-whole, given-parts, told-parts, told-length}
+use Rattle.rules.proofs.Parts.{Parts, length-whole, given-parts}
+use Rattle.decoder.proofs.Told.{told-parts, told-length}
 use Rattle.decoder.proofs.Lengths.{texel-four, texel-reads, four-is}
 
 module _ (t : Tile) (mode lane : ℕ) (r : Row) (i : ℕ) (bank : List ℕ) where

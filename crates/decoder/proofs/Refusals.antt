@@ -1,9 +1,8 @@
--- Laws of the first refusal of two lists of tests, and of the test for an unknown pair.
+-- The first refusal: an early one, or what the tests of the buffers and of the unknown pair say.
 use mathlib.Core.Path.{_≡_, refl, sym, _∙_}
 use mathlib.Core.Bool.{Bool, true, false, cond, not, _&&_, _||_}
 use mathlib.Core.List.{List, [], _∷_, _++_}
 use Prim.Native.Nat.{ℕ, _*_, _/_}
-use native.Mathlib.Omega.{arith}
 use lib.Dec.{eqb, ltb}
 use lib.ListN.{length}
 use Rattle.rules.specs.Reading.{trail}
@@ -12,30 +11,9 @@ use Rattle.rules.specs.Texdec.{Format, rgba16, rgba32, ci4, ci8, ci16, ia4, ia8
 use Rattle.rules.specs.Picture.{formatReads, readsEach}
 use Rattle.rules.specs.Refusal.{Test, first}
 use Rattle.rules.specs.Calls.{shortPicture, shortTrail, unknownPair}
-use Rattle.rules.proofs.Refused.{Numbered}
+use Rattle.rules.proofs.Refused.{numbered, first-before, first-after}
 use Rattle.decoder.proofs.Counted.{reads-count}
 use Rattle.decoder.specs.Asked.{readingBy, texelsBy, earlyTests, testsBy}
-
--- where the first list refuses, so do both
-pub first-stops : (l m : List Test) → (first l ≡ 0 → ⊥) → first (l ++ m) ≡ first l
-unfolding first
-first-stops [] m h = absurd (h refl)
-first-stops (t ∷ l) m h = go (t .fails) h (first-stops l m)
-  where
-    go : (b : Bool) → (cond b (t .number) (first l) ≡ 0 → ⊥) → ((first l ≡ 0 → ⊥) → first (l ++ m) ≡ first l)
-        → cond b (t .number) (first (l ++ m)) ≡ cond b (t .number) (first l)
-    go true h ih = refl
-    go false h ih = ih h
-
--- where it refuses nothing, the second decides
-pub first-goes-on : (l m : List Test) → Numbered l → first l ≡ 0 → first (l ++ m) ≡ first m
-unfolding first Numbered
-first-goes-on [] m n h = refl
-first-goes-on (t ∷ l) m n h = go (t .fails) h (first-goes-on l m (n .1))
-  where
-    go : (b : Bool) → cond b (t .number) (first l) ≡ 0 → (first l ≡ 0 → first (l ++ m) ≡ first m) → cond b (t .number) (first (l ++ m)) ≡ first m
-    go true h ih = absurd (n .0 h)
-    go false h ih = ih h
 
 format-none : (f : Format) → eqb (formatReads f) 0 ≡ not (known f)
 format-none rgba16 = refl
@@ -88,14 +66,11 @@ module _ (observe looked : Bool) (bank : List ℕ) (t : Tile) (mode lane : ℕ) 
 
   -- an early refusal is the call's
   pub refusal-early : (n : ℕ) → n ≡ first (earlyTests bank t mode lane) → (n ≡ 0 → ⊥) → n ≡ first (testsBy observe looked bank t mode lane out seen)
-  refusal-early n e h = rw whole (e ∙ sym (first-stops (earlyTests bank t mode lane) _ (λ z. h (e ∙ z))))
+  refusal-early n e h = rw whole (first-before (earlyTests bank t mode lane) _ n (numbered (earlyTests bank t mode lane) refl) e h)
 
   -- where there is none, the tests of the buffers decide
   pub refusal-late : (texels each : ℕ) → first (earlyTests bank t mode lane) ≡ 0 → texels ≡ texelsBy looked t → each ≡ readsEach t mode
       → cond (ltb (length out) (4 * texels)) 6 (cond (observe && ltb (length seen / 2) (each * texels)) 7 (cond (eqb each 0) 9 0))
       ≡ first (testsBy observe looked bank t mode lane out seen)
-  unfolding Numbered
   refusal-late texels each e et ee =
-      rw whole
-      (late-first texels each et ee
-      ∙ sym (first-goes-on (earlyTests bank t mode lane) _ ((λ z. omega arith), ((λ z. omega arith), ((λ z. omega arith), ((λ z. omega arith), ((λ z. omega arith), tt))))) e))
+      rw whole (late-first texels each et ee ∙ sym (first-after (earlyTests bank t mode lane) _ (numbered (earlyTests bank t mode lane) refl) e))

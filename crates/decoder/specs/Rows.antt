@@ -7,16 +7,14 @@ use lib.Dec.{eqb}
 use lib.ListN.{length, getD}
 use Rattle.rules.specs.Base.{odd}
 use Rattle.rules.specs.Reading.{Reading, upTo, encoded}
-use Rattle.rules.specs.Tile.{Tile}
-use Rattle.rules.specs.Texdec.{tlut, formatOf, stepKnows}
+use Rattle.rules.specs.Tile.{Tile, InRange}
+use Rattle.rules.specs.Texdec.{tlut, stepKnows}
 use Rattle.rules.specs.Picture.{texel, rowStart, readsEach}
 use Rattle.rdp.specs.View.{tileOf}
-use Rattle.texdec.specs.Ia8.{Ia8Table}
-use Rattle.decoder.specs.declared.format.Format.{Format}
+use Rattle.texel.specs.Steps.{kindOf}
+use Rattle.texel.specs.Tables.{TexelTable}
 use Rattle.decoder.specs.declared.place.Row.{Row}
 use Rattle.decoder.specs.declared.plan.Plan.{Plan}
-use Rattle.decoder.specs.Formats.{formatView}
-use Rattle.decoder.specs.Steps.{Inside}
 
 -- the halves of a byte that a texel takes in its row
 abbrev pub scaleOf : Tile → ℕ → ℕ
@@ -63,13 +61,13 @@ told observe l = cond observe (encoded l) []
 abbrev pub trailStep : Bool → Tile → ℕ → ℕ
 trailStep observe t mode = cond observe (2 * readsEach t mode) 0
 
--- what holds once nothing was refused: the bank is whole, the IA8 table is at hand, and the plan's tile with its format, mode
--- and lane are as a texel takes them
-pub record Ready (bank ia8 : List ℕ) (p : Plan) (f : Format) : Type 0 where
+-- what holds once nothing was refused: the bank is whole, the table is at hand, and the plan's tile with its mode, lane and kind
+-- are as a texel takes them
+pub record Ready (bank texels : List ℕ) (p : Plan) (k : ℕ) : Type 0 where
   pub whole : length bank ≡ 4096
-  pub table : Ia8Table ia8
-  pub inside : Inside (tileOf (p .tile))
-  pub format : formatView f ≡ formatOf (p .tile .fmt) (p .tile .siz)
+  pub table : TexelTable (tileOf (p .tile)) (p .«tlut_fmt») (p .lane) bank texels
+  pub inside : InRange (tileOf (p .tile))
+  pub kind : k ≡ kindOf (tileOf (p .tile)) (p .«tlut_fmt»)
   pub knows : stepKnows (p .«tlut_fmt») (p .tile .fmt) (p .tile .siz) ≡ true
   pub slot : p .lane ≤ 3
   pub narrow : p .width ≤ 4096

@@ -2,7 +2,7 @@
 ghost use mathlib.Core.Path.{_≡_};
 ghost use Rattle.rdp.specs.View.{tileOf, answered};
 ghost use Rattle.decoder.specs.Asked.{outcomeBy, buffersBy};
-use crate::picture::decode_picture;
+use crate::decode::decode_picture;
 use rdp::answer::Answer;
 use rdp::tile::TileDescriptor;
 

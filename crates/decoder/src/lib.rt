@@ -1,14 +1,9 @@
-// The pictures of tmem.rs: a texel, rows of them, and the two pictures of a tile, alone or with the trail of their reads.
+// The pictures of tmem.rs: rows of texels, and the two pictures of a tile, alone or with the trail of their reads.
 mod bank_decoder;
-mod direct;
-mod format;
-mod load;
-mod palette;
+mod decode;
 pub mod picture;
 mod place;
 mod plan;
 mod refused;
 mod rows;
 mod sizes;
-mod texel;
-mod trail;

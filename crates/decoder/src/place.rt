@@ -2,7 +2,7 @@
 ghost use mathlib.Core.Path.{_≡_};
 ghost use Prim.Native.Nat.{_<_, _≤_};
 ghost use Rattle.rdp.specs.View.{tileOf};
-ghost use Rattle.decoder.specs.Steps.{Inside};
+ghost use Rattle.rules.specs.Tile.{InRange};
 ghost use Rattle.decoder.specs.Rows.{RowBounds, scaleOf, rowAt, relIn, xIn};
 use rdp::tile::TileDescriptor;
 
@@ -33,7 +33,7 @@ fn scale_of(tile: TileDescriptor, tlut_fmt: u32) -> usize
 
 // Row y of the lookup or of the plain picture.
 pub(crate) fn row_at(tile: TileDescriptor, tlut_fmt: u32, lookup: bool, y: usize) -> Row
-    requires { ⌜ Inside (tileOf tile) ⌝ }
+    requires { ⌜ InRange (tileOf tile) ⌝ }
     ensures { λ r. ⌜ r ≡ rowAt lookup (tileOf tile) «tlut_fmt» y ⌝ }
     ensures { λ r. ⌜ RowBounds r ⌝ }
 {

@@ -5,12 +5,10 @@ ghost use Rattle.rules.specs.Refusal.{first};
 ghost use Rattle.rdp.specs.View.{tileOf};
 ghost use Rattle.decoder.specs.Asked.{earlyTests, testsBy};
 use crate::sizes::texel_count;
-use crate::sizes::tile_reads;
 use rdp::refusal;
 use rdp::tile::TileDescriptor;
-use rdp::tile::lane_outside;
-use rdp::tile::mode_outside;
-use texdec::format::FormatInfo;
+use texdec::pair::pair_refusal;
+use texel::format::tile_reads;
 
 // The refusal's number if its test fails, else what the tests after it say.
 fn refuse(number: u32, fails: bool, rest: u32) -> u32
@@ -19,19 +17,15 @@ fn refuse(number: u32, fails: bool, rest: u32) -> u32
     if fails { number } else { rest }
 }
 
-// The first refusal of the tests before the buffers'.
+// The first refusal of the tests before the buffers': 1 for the bank, then those of a pair.
 fn early_refusal(bank: &[u8], tile: TileDescriptor, tlut_fmt: u32, lane: u32) -> u32
     ensures { λ r. ⌜ r ≡ first (earlyTests (now (bank .entry)) (tileOf tile) «tlut_fmt» lane) ⌝ }
 {
-    let pair = FormatInfo {
-        fmt: tile.fmt,
-        siz: tile.siz,
-    };
-    let no = refuse(refusal::PAIR, !pair.validate_tlut(tlut_fmt), 0);
-    let no = refuse(refusal::MODE_OR_LANE, lane_outside(lane), no);
-    let no = refuse(refusal::MODE_OR_LANE, mode_outside(tlut_fmt), no);
-    let no = refuse(refusal::TILE, tile.outside(), no);
-    refuse(refusal::LENGTH, bank.len() != 4096, no)
+    refuse(
+        refusal::LENGTH,
+        bank.len() != 4096,
+        pair_refusal(tile, tlut_fmt, lane),
+    )
 }
 
 // The first refusal of all tests.

@@ -1,13 +1,10 @@
-// How large the picture that is asked for is, and how many reads its texels make.
+// How large the picture that is asked for is, and the trail that a texel takes.
 ghost use mathlib.Core.Path.{_≡_};
 ghost use mathlib.Core.Bool.{cond};
 ghost use Prim.Native.Nat.{_*_, _≤_};
-ghost use Rattle.rules.specs.Picture.{readsEach};
+ghost use Rattle.rules.specs.Tile.{InRange};
 ghost use Rattle.rdp.specs.View.{tileOf};
-ghost use Rattle.decoder.specs.Steps.{Tiled};
 ghost use Rattle.decoder.specs.Asked.{texelsBy, widthBy, rowsBy};
-use crate::format::format_of;
-use crate::format::reads_each;
 use rdp::tile::TileDescriptor;
 
 // The texels of a row, the rows, and all texels.
@@ -24,7 +21,7 @@ pub(crate) fn row_count(tile: TileDescriptor, lookup: bool) -> usize
 }
 
 pub(crate) fn texel_count(tile: TileDescriptor, lookup: bool) -> usize
-    requires { ⌜ Tiled (tileOf tile) ⌝ }
+    requires { ⌜ InRange (tileOf tile) ⌝ }
     ensures { λ r. ⌜ r ≡ texelsBy lookup (tileOf tile) ⌝ }
     ensures { λ r. ⌜ r ≤ 1048576 ⌝ }
 {
@@ -33,15 +30,6 @@ pub(crate) fn texel_count(tile: TileDescriptor, lookup: bool) -> usize
     } else {
         tile.width as usize * tile.height as usize
     }
-}
-
-// The reads of a texel.
-pub(crate) fn tile_reads(tile: TileDescriptor, tlut_fmt: u32) -> usize
-    requires { ⌜ Tiled (tileOf tile) ⌝ }
-    ensures { λ r. ⌜ r ≡ readsEach (tileOf tile) «tlut_fmt» ⌝ }
-    ensures { λ r. ⌜ r ≤ 4 ⌝ }
-{
-    reads_each(format_of(tile.fmt, tile.siz), tlut_fmt)
 }
 
 // The bytes of trail that a texel takes.

@@ -12,6 +12,8 @@ use Rattle.rules.specs.Texdec.{Format, rgba16, rgba32, ci4, ci8, ci16, ia4, ia8
 use Rattle.rules.specs.Reading.{Reading, trail, upTo}
 use Rattle.rules.specs.Sampling.{flag}
 use Rattle.rules.specs.Picture.{address, direct, paletted, index, texel, plainRow, plain, lookupRow, lookup, picture}
+use Rattle.texdec.specs.Palette.{indexPart}
+use Rattle.texdec.proofs.Palettes.{by-part, part-small}
 use Rattle.rules.proofs.Maps.{Below}
 use Rattle.rules.proofs.Readings.{trail-then}
 
@@ -41,12 +43,7 @@ direct-below unknown base palette swap rel x b = tt
 
 -- an index is below 256
 pub index-byte : (t : Tile) (x v : ℕ) → t .palette ≤ 15 → v < 256 → index t x v < 256
-index-byte t x v p h = go (eqb (t .siz) 0) (eqb (cond (eqb (t .fmt) 1) 0 x % 2) 0)
-  where
-    go : (s u : Bool) → cond s (t .palette * 16 + cond u (v / 16) (v % 16)) v < 256
-    go true true = omega arith
-    go true false = omega arith
-    go false u = h
+index-byte t x v p h = rw (← by-part t x v) (part-small (indexPart (t .fmt) (t .siz)) (t .palette) x v p h)
 
 paletted-below : (t : Tile) (mode lane : ℕ) (swap : Bool) (rel x : ℕ) (b : List ℕ) → t .palette ≤ 15 → lane ≤ 3 → Bytes b
     → Below 4096 (trail (paletted t mode lane swap rel x) b)

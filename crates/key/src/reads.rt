@@ -13,6 +13,7 @@ ghost use Rattle.rdp.specs.View.{tileOf};
 use rdp::tile::TileDescriptor;
 use rdp::units::ByteAddr;
 use rdp::units::swap_odd_line;
+use texdec::palette::index_part;
 use texdec::palette::palette_index;
 
 // Where the byte at rel stands, before it wraps at the end of the bank or of its low half.
@@ -64,7 +65,8 @@ fn entry_at(tile: TileDescriptor, lane: u32, x: usize, byte: u8) -> usize
     ensures { λ r. ⌜ r ≡ entryAt (index (tileOf tile) x byte) lane ⌝ }
     ensures { λ r. ⌜ r + 1 < 4096 ⌝ }
 {
-    let index = palette_index(tile, x, byte);
+    let part = index_part(tile.fmt, tile.siz);
+    let index = palette_index(part, tile.palette, x, byte);
     2048 + 8 * index + 2 * lane as usize
 }
 

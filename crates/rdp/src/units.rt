@@ -37,5 +37,5 @@ impl LineWords {
 pub fn swap_odd_line(addr: usize, odd: bool) -> usize
     ensures { λ r. ⌜ r ≡ swapOdd odd addr ⌝ }
 {
-    if odd { addr ^ 4 } else { addr }
+    addr ^ (odd as usize * 4)
 }

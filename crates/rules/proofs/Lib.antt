@@ -4,6 +4,7 @@ pub mod Tables
 pub mod Readings
 pub mod Keys
 pub mod Over
+pub mod Parts
 pub mod Maps
 pub mod Loads
 pub mod Swaps

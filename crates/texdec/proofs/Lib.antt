@@ -1,4 +1,5 @@
 -- What the proofs of texdec cite: the nibble's bound, the pairs by their sizes, and a table's rule.
 pub mod Nibbles
+pub mod Palettes
 pub mod Sizes
 pub mod Table

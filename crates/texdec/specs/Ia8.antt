@@ -5,9 +5,9 @@ use Prim.Native.Nat.{ℕ, _/_, _%_, _<_}
 use lib.ListN.{getD}
 use Rattle.rules.specs.Texdec.{ia8Texel}
 
--- the four bytes of a texel, the highest first
+-- the four bytes of a texel, the lowest first
 abbrev pub channels : ℕ → List ℕ
-channels v = (v / 16777216 % 256) ∷ (v / 65536 % 256) ∷ (v / 256 % 256) ∷ (v % 256) ∷ []
+channels v = (v % 256) ∷ (v / 256 % 256) ∷ (v / 65536 % 256) ∷ (v / 16777216 % 256) ∷ []
 
 -- the texel of each byte stands at its place
 pub record Ia8Table (l : List ℕ) : Type 0 where

@@ -1,7 +1,7 @@
 -- `decoder::refused::first_refusal` is the first refusal: an early one, or what the tests of the buffers say. Assumes nothing.
 use Rattle.decoder.proofs.Within.{early}
 use Rattle.decoder.proofs.Refusals.{refusal-early, refusal-late}
-use Rattle.decoder.specs.Steps.{Tiled}
+use Rattle.rules.specs.Tile.{InRange}
 use Rattle.decoder.specs.Asked.{earlyTests}
 use Rattle.rdp.specs.View.{tileOf}
 use Rattle.rules.specs.Refusal.{first}
@@ -17,7 +17,7 @@ none : (c : tie.Else1) → let a = c .before .before .before .before .before .ar
     first (earlyTests (a .bank .now) (tileOf (a .tile)) (a .«tlut-fmt») (a .lane)) ≡ 0
 none c = sym (c .before .early-refusal .ensures) ∙ c .if1 .left
 
-tiled : (c : tie.Else1) → let a = c .before .before .before .before .before .args in Tiled (tileOf (a .tile))
+tiled : (c : tie.Else1) → let a = c .before .before .before .before .before .args in InRange (tileOf (a .tile))
 tiled c =
     let a = c .before .before .before .before .before .args in
     early (a .bank .now) (tileOf (a .tile)) (a .«tlut-fmt») (a .lane) (none c) .tile

@@ -1,6 +1,6 @@
 -- `decoder::rows::decode_row` writes one texel after the other, each through the part that starts where the ones before it end.
 use Rattle.decoder.proofs.Placed.{row-given, row-told}
-use Rattle.decoder.proofs.Parts.{begins, again, room, part-ends}
+use Rattle.rules.proofs.Parts.{begins, again, room, part-ends}
 use Rattle.decoder.specs.Rows.{rowOf, oneTexel, told}
 use Rattle.rules.specs.Reading.{given, trail, upTo}
 use Rattle.rules.specs.Base.{over}
@@ -12,7 +12,7 @@ use Rattle.decoder.proofs.rows.decode_row.Statement.{statement}
 use Rattle.decoder.proofs.rows.decode_row.Tie as tie
 
 abbrev Inv-loop : tie.InvT-loop
-Inv-loop bank ia8 plan format row out₀ seen₀ width step i₀ out seen i =
+Inv-loop bank table plan kind observe row out₀ seen₀ width step i₀ out seen i =
     (i ≤ width)
     × (out ≡ over (given (upTo i (oneTexel plan row)) bank) out₀)
     × (seen ≡ over (told (plan .observe) (trail (upTo i (oneTexel plan row)) bank)) seen₀)
@@ -20,7 +20,7 @@ Inv-loop bank ia8 plan format row out₀ seen₀ width step i₀ out seen i =
     × (length seen ≡ length seen₀)
 
 abbrev μ-loop : tie.MeasureT-loop
-μ-loop bank ia8 plan format row out₀ seen₀ width step i₀ out seen i = width - i
+μ-loop bank table plan kind observe row out₀ seen₀ width step i₀ out seen i = width - i
 
 -- the function's entry, and where the trail of a texel ends
 abbrev start : tie.At-loop Inv-loop μ-loop → tie.Start Inv-loop μ-loop
@@ -72,7 +72,7 @@ put-texel-requires c κs =
     let a = start s .args .plan in
     let bytes = room 4 (s .loop .i) (a .width) (s .loop .out) (omega arith) (omega arith) in
     let told = room (a .step) (s .loop .i) (a .width) (s .loop .seen) (omega arith) (omega arith) in
-    (p .0, (p .1 .0, (omega arith, (bytes, told))))
+    (p .0, (p .1 .0, (p .1 .1 .0, (omega arith, (bytes, told)))))
 
 add-i : tie.Need-add-i Inv-loop μ-loop
 add-i c = omega arith
@@ -86,8 +86,8 @@ loop-again c =
     let a = start s .args in
     let p = start s .pre in
     let t = c .before .before .before .before .put-texel in
-    let o = again (row-given (a .plan) (a .bank .now) (a .row) (a .plan .width) (p .0 .knows)) (s .loop .i) _ _ _ (omega arith) (p .1 .1 .0) (s .loop .inv .1) (t .ensures .0) in
-    let q = again (row-told (a .plan) (a .bank .now) (a .row) (a .plan .width) (p .0 .step)) (s .loop .i) _ _ _ (omega arith) (p .1 .1 .1) (s .loop .inv .2) (t .ensures .1) in
+    let o = again (row-given (a .plan) (a .bank .now) (a .row) (a .plan .width) (p .0 .knows)) (s .loop .i) _ _ _ (omega arith) (p .1 .1 .1 .0) (s .loop .inv .1) (t .ensures .0) in
+    let q = again (row-told (a .plan) (a .bank .now) (a .row) (a .plan .width) (p .0 .step)) (s .loop .i) _ _ _ (omega arith) (p .1 .1 .1 .1) (s .loop .inv .2) (t .ensures .1) in
     (omega arith, o .0, q .0, o .1, q .1)
 
 same-length : tie.Need-same-length Inv-loop μ-loop

@@ -1,6 +1,6 @@
 -- `decoder::rows::decode_rows` writes one row after the other, each through the part that starts where the ones before it end.
 use Rattle.decoder.proofs.Placed.{rows-given, rows-told}
-use Rattle.decoder.proofs.Parts.{begins, again, room, part-ends}
+use Rattle.rules.proofs.Parts.{begins, again, room, part-ends}
 use Rattle.decoder.proofs.Counted.{step-few}
 use Rattle.decoder.specs.Rows.{rowAt, rowsOf, oneRow}
 use Rattle.decoder.specs.declared.plan.Plan.{Plan}
@@ -20,7 +20,7 @@ abbrev rowAtOf : Plan → ℕ → Reading
 rowAtOf p y = oneRow p (rowAt (p .lookup) (tileOf (p .tile)) (p .«tlut_fmt») y)
 
 abbrev Inv-loop : tie.InvT-loop
-Inv-loop bank ia8 plan format out₀ seen₀ rows bytes told y₀ out seen y =
+Inv-loop bank table plan kind out₀ seen₀ rows bytes told y₀ out seen y =
     (y ≤ rows)
     × (out ≡ over (given (upTo y (rowAtOf plan)) bank) out₀)
     × (seen ≡ over (Rattle.decoder.specs.Rows.told (plan .observe) (trail (upTo y (rowAtOf plan)) bank)) seen₀)
@@ -28,7 +28,7 @@ Inv-loop bank ia8 plan format out₀ seen₀ rows bytes told y₀ out seen y =
     × (length seen ≡ length seen₀)
 
 abbrev μ-loop : tie.MeasureT-loop
-μ-loop bank ia8 plan format out₀ seen₀ rows bytes told y₀ out seen y = rows - y
+μ-loop bank table plan kind out₀ seen₀ rows bytes told y₀ out seen y = rows - y
 
 -- the function's entry, and where a row of the picture and its trail end
 abbrev start : tie.At-loop Inv-loop μ-loop → tie.Start Inv-loop μ-loop
@@ -72,26 +72,26 @@ mul-o c = let s = c .before .before .before in omega (arith, ends s (omega arith
 mul-s : tie.Need-mul-s Inv-loop μ-loop
 mul-s c = let s = c .before .before .before in omega (arith, told-ends s (omega arith), start s .good)
 
-sub-decode-row : tie.Need-sub-decode-row Inv-loop μ-loop
-sub-decode-row c = omega (arith, ends (c .before .before .before) (omega arith))
+sub-paint-row : tie.Need-sub-paint-row Inv-loop μ-loop
+sub-paint-row c = omega (arith, ends (c .before .before .before) (omega arith))
 
-part-decode-row-start : tie.Need-part-decode-row-start Inv-loop μ-loop
-part-decode-row-start c = omega (arith, ends (c .before .before .before) (omega arith))
+part-paint-row-start : tie.Need-part-paint-row-start Inv-loop μ-loop
+part-paint-row-start c = omega (arith, ends (c .before .before .before) (omega arith))
 
-part-decode-row-end : tie.Need-part-decode-row-end Inv-loop μ-loop
-part-decode-row-end c = omega (arith, ends (c .before .before .before) (omega arith))
+part-paint-row-end : tie.Need-part-paint-row-end Inv-loop μ-loop
+part-paint-row-end c = omega (arith, ends (c .before .before .before) (omega arith))
 
-sub-decode-row-2 : tie.Need-sub-decode-row-2 Inv-loop μ-loop
-sub-decode-row-2 c = omega (arith, told-ends (c .before .before .before .before) (omega arith))
+sub-paint-row-2 : tie.Need-sub-paint-row-2 Inv-loop μ-loop
+sub-paint-row-2 c = omega (arith, told-ends (c .before .before .before .before) (omega arith))
 
-part-decode-row-start-2 : tie.Need-part-decode-row-start-2 Inv-loop μ-loop
-part-decode-row-start-2 c = omega (arith, told-ends (c .before .before .before .before) (omega arith))
+part-paint-row-start-2 : tie.Need-part-paint-row-start-2 Inv-loop μ-loop
+part-paint-row-start-2 c = omega (arith, told-ends (c .before .before .before .before) (omega arith))
 
-part-decode-row-end-2 : tie.Need-part-decode-row-end-2 Inv-loop μ-loop
-part-decode-row-end-2 c = omega (arith, told-ends (c .before .before .before .before) (omega arith))
+part-paint-row-end-2 : tie.Need-part-paint-row-end-2 Inv-loop μ-loop
+part-paint-row-end-2 c = omega (arith, told-ends (c .before .before .before .before) (omega arith))
 
-decode-row-requires : tie.Need-decode-row-requires Inv-loop μ-loop
-decode-row-requires c κs =
+paint-row-requires : tie.Need-paint-row-requires Inv-loop μ-loop
+paint-row-requires c κs =
     let s = c .before .before .before .before .before in
     let p = start s .pre in
     let a = start s .args .plan in
@@ -111,7 +111,7 @@ loop-again c =
     let s = r .before .before .before in
     let a = start s .args in
     let p = start s .pre in
-    let t = c .before .before .before .before .decode-row in
+    let t = c .before .before .before .before .paint-row in
     let row = rowAt (a .plan .lookup) (tileOf (a .plan .tile)) (a .plan .«tlut_fmt») in
     let o = again (rows-given (a .plan) (a .bank .now) row (a .plan .rows) (p .0 .knows)) (s .loop .y) _ _ _ (omega arith) (p .1 .0) (s .loop .inv .1) (rw (r .row-at .ensures .0) at (t .ensures .0)) in
     let q = again (rows-told (a .plan) (a .bank .now) row (a .plan .rows) (p .0 .step)) (s .loop .y) _ _ _ (omega arith) (p .1 .1) (s .loop .inv .2) (rw (r .row-at .ensures .0) at (t .ensures .1)) in
@@ -141,13 +141,13 @@ decode-rows-spec =
     row-at-requires
     mul-o
     mul-s
-    sub-decode-row
-    part-decode-row-start
-    part-decode-row-end
-    sub-decode-row-2
-    part-decode-row-start-2
-    part-decode-row-end-2
-    decode-row-requires
+    sub-paint-row
+    part-paint-row-start
+    part-paint-row-end
+    sub-paint-row-2
+    part-paint-row-start-2
+    part-paint-row-end-2
+    paint-row-requires
     add-y
     loop-less
     loop-again

@@ -12,13 +12,13 @@ cast-result-2 : tie.Need-cast-result-2
 cast-result-2 c = search needs
 
 mul-result : tie.Need-mul-result
-mul-result c = let s = c .before .before .before in omega (arith, mul-le-mul (s .pre .inside .width) (s .pre .inside .height))
+mul-result c = let s = c .before .before .before in omega (arith, mul-le-mul (s .pre .width) (s .pre .height))
 
 returns : tie.Need-returns
 returns c = search needs
 
 returns-2 : tie.Need-returns-2
-returns-2 c = let s = c .before .before .before in (rw (c .before .before .if1 .left), mul-le-mul (s .pre .inside .width) (s .pre .inside .height))
+returns-2 c = let s = c .before .before .before in (rw (c .before .before .if1 .left), mul-le-mul (s .pre .width) (s .pre .height))
 
 pub texel-count-spec : {M : Type 1} → statement M
 texel-count-spec = tie.close (tie.spec cast-result cast-result-2 mul-result returns returns-2)

@@ -1,17 +1,9 @@
--- `texdec::palette::palette_index` is the rule's index by the same tests. Assumes nothing.
+-- `texdec::palette::palette_index` is the rule, part by part. Assumes nothing.
+use borrow.Author.Tests.{ne-eqb}
 use borrow.Author.Needs.{needs}
-use borrow.Author.Tests.{eq-eqb, ne-eqb}
 use Rattle.texdec.proofs.palette.palette_index.Statement.{statement}
 use Rattle.texdec.proofs.palette.palette_index.Tie as tie
-
-returns : tie.Need-returns
-returns c = rw (ne-eqb _ _ (c .if1 .taken))
-
-palette-column-requires : tie.Need-palette-column-requires
-palette-column-requires c κs = search needs
-
-cast-result : tie.Need-cast-result
-cast-result c = search needs
+use Rattle.texdec.proofs.nibble.nibble.Reads as nibble-reads
 
 mul-result : tie.Need-mul-result
 mul-result c = search needs
@@ -19,25 +11,47 @@ mul-result c = search needs
 nibble-requires : tie.Need-nibble-requires
 nibble-requires c κs = search needs
 
-cast-result-2 : tie.Need-cast-result-2
-cast-result-2 c = search needs
+cast-result : tie.Need-cast-result
+cast-result c = search needs
 
 add-result : tie.Need-add-result
 add-result c = search needs
 
+mul-result-2 : tie.Need-mul-result-2
+mul-result-2 c = search needs
+
+nibble-requires-2 : tie.Need-nibble-requires-2
+nibble-requires-2 c κs = search needs
+
+cast-result-2 : tie.Need-cast-result-2
+cast-result-2 c = search needs
+
+add-result-2 : tie.Need-add-result-2
+add-result-2 c = search needs
+
+returns : tie.Need-returns
+returns c = rw (c .match .keys1)
+
 returns-2 : tie.Need-returns-2
-returns-2 c =
-    rw (c .nibble .ensures, c .before .before .palette-column .ensures, eq-eqb _ _ (c .before .before .before .if1 .left))
+returns-2 c = rw (c .before .match .keys2, c .nibble .ensures)
+
+returns-3 : tie.Need-returns-3
+returns-3 c =
+    let m = c .before .match .rest in
+    rw (ne-eqb _ _ (m .0 .1), ne-eqb _ _ (m .1), c .nibble2 .ensures)
 
 pub palette-index-spec : {M : Type 1} → statement M
 palette-index-spec =
     tie.close
     (tie.spec
-    returns
-    palette-column-requires
-    cast-result
     mul-result
     nibble-requires
-    cast-result-2
+    cast-result
     add-result
-    returns-2)
+    mul-result-2
+    nibble-requires-2
+    cast-result-2
+    add-result-2
+    returns
+    returns-2
+    returns-3)
