@@ -14,10 +14,9 @@ use Rattle.rules.specs.Tile.{Tile}
 use Rattle.rules.specs.Texdec.{formatOf, tlut}
 use Rattle.rules.specs.Picture.{texel, rowStart, column, readsEach, formatReads, plain, plainRow, lookup, lookupRow}
 use Rattle.rules.proofs.Readings.{trail-length}
-use Rattle.texel.proofs.Formats.{format-few}
-use Rattle.decoder.specs.Rows.{trailStep, scaleOf, rowAt, rowTexel, rowOf, rowsOf}
+use Rattle.rows.specs.Rows.{scaleOf, rowAt, rowTexel, rowOf, rowsOf}
 use Rattle.decoder.specs.Asked.{readingBy, texelsBy, widthBy, rowsBy}
-use Rattle.decoder.proofs.Placed.{row-reads}
+use Rattle.rows.proofs.Placed.{row-reads}
 
 pub texels-by : (looked : Bool) (t : Tile) → widthBy looked t * rowsBy looked t ≡ texelsBy looked t
 texels-by true t = refl
@@ -68,15 +67,3 @@ pub reads-count : (looked : Bool) (t : Tile) (mode lane : ℕ) (bank : List ℕ)
     → length (trail (readingBy looked t mode lane) bank) ≡ readsEach t mode * texelsBy looked t
 reads-count looked t mode lane bank =
     rw (← reading-by looked t mode lane, ← texels-by looked t) (rows-count looked t mode lane bank (widthBy looked t) (rowsBy looked t))
-
-pub reads-few : (t : Tile) (mode : ℕ) → readsEach t mode ≤ 4
-unfolding readsEach
-reads-few t mode = go (tlut mode)
-  where
-    go : (b : Bool) → cond b 3 (formatReads (formatOf (t .fmt) (t .siz))) ≤ 4
-    go true = omega arith
-    go false = format-few (formatOf (t .fmt) (t .siz))
-
-pub step-few : (observe : Bool) (t : Tile) (mode : ℕ) → trailStep observe t mode ≤ 8
-step-few true t mode = omega (arith, reads-few t mode)
-step-few false t mode = omega arith

@@ -10,7 +10,7 @@ use Rattle.rules.specs.Picture.{readsEach}
 use Rattle.rules.specs.Refusal.{first}
 use Rattle.rules.specs.Calls.{pictureCall, observedCall}
 use Rattle.rules.proofs.Refused.{refused-is, done-is}
-use Rattle.decoder.specs.Rows.{rowsOf, told}
+use Rattle.rows.specs.Rows.{rowsOf, told}
 use Rattle.decoder.specs.Asked.{texelsBy, widthBy, rowsBy, testsBy, outcomeBy, buffersBy}
 use Rattle.decoder.proofs.Counted.{reading-by, reads-count}
 

@@ -7,35 +7,14 @@ use lib.Dec.{eqb, ltb}
 use lib.ListN.{length}
 use Rattle.rules.specs.Reading.{trail}
 use Rattle.rules.specs.Tile.{Tile}
-use Rattle.rules.specs.Texdec.{Format, rgba16, rgba32, ci4, ci8, ci16, ia4, ia8, ia16, i4, i8, unknown, formatOf, known, tlut, stepKnows}
-use Rattle.rules.specs.Picture.{formatReads, readsEach}
+use Rattle.rules.specs.Texdec.{stepKnows}
+use Rattle.rules.specs.Picture.{readsEach}
 use Rattle.rules.specs.Refusal.{Test, first}
 use Rattle.rules.specs.Calls.{shortPicture, shortTrail, unknownPair}
 use Rattle.rules.proofs.Refused.{numbered, first-before, first-after}
+use Rattle.rows.proofs.Lengths.{reads-none}
 use Rattle.decoder.proofs.Counted.{reads-count}
 use Rattle.decoder.specs.Asked.{readingBy, texelsBy, earlyTests, testsBy}
-
-format-none : (f : Format) → eqb (formatReads f) 0 ≡ not (known f)
-format-none rgba16 = refl
-format-none rgba32 = refl
-format-none ci4 = refl
-format-none ci8 = refl
-format-none ci16 = refl
-format-none ia4 = refl
-format-none ia8 = refl
-format-none ia16 = refl
-format-none i4 = refl
-format-none i8 = refl
-format-none unknown = refl
-
--- a pair is unknown to the step where its texels make no reads
-pub reads-none : (t : Tile) (mode : ℕ) → eqb (readsEach t mode) 0 ≡ not (stepKnows mode (t .fmt) (t .siz))
-unfolding readsEach
-reads-none t mode = go (tlut mode)
-  where
-    go : (b : Bool) → eqb (cond b 3 (formatReads (formatOf (t .fmt) (t .siz)))) 0 ≡ not (b || known (formatOf (t .fmt) (t .siz)))
-    go true = refl
-    go false = format-none (formatOf (t .fmt) (t .siz))
 
 -- the tests of the buffers, and of the unknown pair
 late : Bool → Bool → List ℕ → Tile → ℕ → ℕ → List ℕ → List ℕ → List Test

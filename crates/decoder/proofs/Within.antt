@@ -19,7 +19,7 @@ use Rattle.rdp.specs.declared.tile.TileDescriptor.{TileDescriptor}
 use Rattle.rules.proofs.Ranges.{in-range}
 use Rattle.texel.specs.Steps.{kindOf}
 use Rattle.texel.specs.Tables.{TexelTable}
-use Rattle.decoder.specs.Rows.{trailStep, Ready}
+use Rattle.rows.specs.Rows.{trailStep, Ready}
 use Rattle.decoder.specs.Asked.{readingBy, texelsBy, widthBy, rowsBy, planBy, earlyTests, testsBy}
 use Rattle.decoder.proofs.Counted.{texels-by, reads-count}
 

@@ -9,7 +9,7 @@ use Rattle.rules.specs.Picture.{plain, lookup}
 use Rattle.rules.specs.Refusal.{Test, _if_, Outcome}
 use Rattle.rdp.specs.View.{tileOf}
 use Rattle.rdp.specs.declared.tile.TileDescriptor.{TileDescriptor}
-use Rattle.decoder.specs.declared.plan.Plan.{Plan}
+use Rattle.rows.specs.declared.plan.Plan.{Plan}
 use Rattle.rules.specs.Calls.{notBytes, pairTests, plainTexels, pictureTests, observedTests, pictureCall, observedCall}
 
 -- the picture that is asked for, its texels, and its rows and their width

@@ -1,3 +1,2 @@
 -- What the contracts inside the decoder cite beside the rules.
-pub mod Rows
 pub mod Asked

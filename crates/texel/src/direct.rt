@@ -22,7 +22,7 @@ use texdec::nibble::nibble;
 fn rgba32_texel(bank: &[u8], base: usize, palette: u32, rel: usize, odd: bool, x: usize) -> Texel
     requires { ⌜ length (now bank) ≡ 4096 ⌝ }
     requires { ⌜ base < 4096 ⌝ }
-    requires { ⌜ rel + 1 < 2097152 ⌝ }
+    requires { ⌜ rel + 1 < 8388608 ⌝ }
     ensures { λ r. ⌜ Decodes (direct rgba32 base palette odd rel x) (now (bank .entry)) r ⌝ }
 {
     let r = load_byte_rgba32(bank, base, rel, odd, 0);
@@ -49,7 +49,7 @@ fn two_byte_texel(
     requires { ⌜ length (now bank) ≡ 4096 ⌝ }
     requires { ⌜ formatReads (formatAt place) ≡ 2 ⌝ }
     requires { ⌜ base < 4096 ⌝ }
-    requires { ⌜ rel + 1 < 2097152 ⌝ }
+    requires { ⌜ rel + 1 < 8388608 ⌝ }
     ensures { λ r. ⌜ Decodes (direct (formatAt place) base palette odd rel x) (now (bank .entry)) r ⌝ }
 {
     let hi = load_byte(bank, base, rel, odd);
@@ -81,7 +81,7 @@ fn one_byte_texel(
     requires { ⌜ formatReads (formatAt place) ≡ 1 ⌝ }
     requires { ⌜ base < 4096 ⌝ }
     requires { ⌜ palette ≤ 15 ⌝ }
-    requires { ⌜ rel < 2097152 ⌝ }
+    requires { ⌜ rel < 8388608 ⌝ }
     ensures { λ r. ⌜ (Ia8Table (now (ia8 .entry)) → Decodes (direct (formatAt place) base palette odd rel x) (now (bank .entry)) r) ⌝ }
 {
     let load = load_byte(bank, base, rel, odd);
@@ -123,7 +123,7 @@ pub fn direct_texel(
     requires { ⌜ length (now bank) ≡ 4096 ⌝ }
     requires { ⌜ base < 4096 ⌝ }
     requires { ⌜ palette ≤ 15 ⌝ }
-    requires { ⌜ rel + 1 < 2097152 ⌝ }
+    requires { ⌜ rel + 1 < 8388608 ⌝ }
     ensures { λ r. ⌜ (Ia8Table (now (ia8 .entry)) → Decodes (direct (formatAt place) base palette odd rel x) (now (bank .entry)) r) ⌝ }
 {
     let reads = format_reads(place);

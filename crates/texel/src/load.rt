@@ -15,8 +15,8 @@ pub struct Load {
 // The byte at rel, in the first `size` bytes of the bank.
 pub fn load_byte_masked(bank: &[u8], base: usize, rel: usize, odd: bool, size: usize) -> Load
     requires { ⌜ length (now bank) ≡ 4096 ⌝ }
-    requires { ⌜ base < 4096 ⌝ }
-    requires { ⌜ rel < 2097152 ⌝ }
+    requires { ⌜ base ≤ 4096 ⌝ }
+    requires { ⌜ rel < 8388608 ⌝ }
     requires { ⌜ (0 < size) × (size ≤ 4096) ⌝ }
     ensures { λ r. ⌜ r ≡ loadAt (now (bank .entry)) (address size base odd rel) ⌝ }
 {
@@ -27,8 +27,8 @@ pub fn load_byte_masked(bank: &[u8], base: usize, rel: usize, odd: bool, size: u
 // The byte at rel, in the whole bank.
 pub fn load_byte(bank: &[u8], base: usize, rel: usize, odd: bool) -> Load
     requires { ⌜ length (now bank) ≡ 4096 ⌝ }
-    requires { ⌜ base < 4096 ⌝ }
-    requires { ⌜ rel < 2097152 ⌝ }
+    requires { ⌜ base ≤ 4096 ⌝ }
+    requires { ⌜ rel < 8388608 ⌝ }
     ensures { λ r. ⌜ r ≡ loadAt (now (bank .entry)) (address 4096 base odd rel) ⌝ }
 {
     load_byte_masked(bank, base, rel, odd, 4096)
@@ -37,8 +37,8 @@ pub fn load_byte(bank: &[u8], base: usize, rel: usize, odd: bool) -> Load
 // The byte at rel in the low half of the bank, or, with `up` 2,048, at the same place of the high half.
 pub fn load_byte_rgba32(bank: &[u8], base: usize, rel: usize, odd: bool, up: usize) -> Load
     requires { ⌜ length (now bank) ≡ 4096 ⌝ }
-    requires { ⌜ base < 4096 ⌝ }
-    requires { ⌜ rel < 2097152 ⌝ }
+    requires { ⌜ base ≤ 4096 ⌝ }
+    requires { ⌜ rel < 8388608 ⌝ }
     requires { ⌜ up ≤ 2048 ⌝ }
     ensures { λ r. ⌜ r ≡ loadAt (now (bank .entry)) (address 2048 base odd rel + up) ⌝ }
 {

@@ -31,7 +31,7 @@ pub fn paletted_texel(
     requires { ⌜ InRange (tileOf tile) ⌝ }
     requires { ⌜ lane ≤ 3 ⌝ }
     requires { ⌜ base ≡ 8 * tileOf tile .tmem-addr ⌝ }
-    requires { ⌜ rel < 2097152 ⌝ }
+    requires { ⌜ rel < 8388608 ⌝ }
     ensures { λ r. ⌜ ((mode : ℕ) → part ≡ indexPart (tile .fmt) (tile .siz) → EntryTable (tileOf tile) mode lane (now (bank .entry)) (now (table .entry)) → Decodes (paletted (tileOf tile) mode lane odd rel x) (now (bank .entry)) r) ⌝ }
 {
     let load = load_byte_masked(bank, base, rel, odd, 2048);

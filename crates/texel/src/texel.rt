@@ -34,7 +34,7 @@ pub fn decode_texel_lane(
     requires { ⌜ length (now bank) ≡ 4096 ⌝ }
     requires { ⌜ InRange (tileOf tile) ⌝ }
     requires { ⌜ lane ≤ 3 ⌝ }
-    requires { ⌜ rel + 1 < 2097152 ⌝ }
+    requires { ⌜ rel + 1 < 8388608 ⌝ }
     ensures { λ r. ⌜ ((mode : ℕ) → kind ≡ kindOf (tileOf tile) mode → TexelTable (tileOf tile) mode lane (now (bank .entry)) (now (table .entry)) → Decodes (texel (tileOf tile) mode lane odd rel x) (now (bank .entry)) r) ⌝ }
 {
     let word = tile.tmem_addr;

@@ -12,7 +12,7 @@ add-at : tie.Need-add-at
 add-at c = let a = c .before .before .args in omega (arith, swap-le (a .odd) (a .rel))
 
 add-at-2 : tie.Need-add-at-2
-add-at-2 c = search needs
+add-at-2 c = let a = c .before .before .args in omega (arith, swap-le (a .odd) (a .rel))
 
 shared-slice-read-t11 : tie.Need-shared-slice-read-t11
 shared-slice-read-t11 c = search needs
