@@ -1,6 +1,4 @@
-// The pictures of tmem.rs: the plain one and the lookup of a tile, alone or with the trail of their reads.
+// The pictures of tmem.rs: the plain one and the lookup of a tile, alone or with the trail of their reads, each through a decoder
+// that refers to the lent bank.
 mod bank_decoder;
-mod decode;
 pub mod picture;
-mod refused;
-mod sizes;

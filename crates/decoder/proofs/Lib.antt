@@ -1,5 +1,0 @@
--- Laws that the proofs of the decoder cite.
-pub mod Counted
-pub mod Outcomes
-pub mod Refusals
-pub mod Within
