@@ -48,7 +48,7 @@ fn put_texel(
     let rel = row.rel(i);
     let x = row.x(i);
     let tile = plan.tile;
-    let texel = decode_texel_lane(bank, table, tile, kind, plan.lane, rel, row.odd, x);
+    let texel = decode_texel_lane(bank, table, tile, kind, plan.lane, rel as u32, row.odd, x);
     let channels = texel.channels;
     put_channels(channels, out);
     if observe {

@@ -1,6 +1,6 @@
 -- Laws of the table of entries: each texel once, and all that an index byte can stand for.
-use mathlib.Core.Path.{_≡_, refl}
-use mathlib.Core.Bool.{Bool, true, false, cond}
+use mathlib.Core.Path.{_≡_, refl, sym, _∙_}
+use mathlib.Core.Bool.{Bool, true, false, cond, _||_, false≢true}
 use mathlib.Core.List.{List, [], _∷_}
 use Prim.Native.Nat.{ℕ, _+_, _*_, _<_, _≤_}
 use native.Mathlib.Nat.{zero-add}
@@ -59,3 +59,12 @@ module _ (t : Tile) where
           → channels (getD table (cond b (t .palette * 16 + n) v) 0) ≡ entryGives mode lane bank (cond b (t .palette * 16 + n) v)
       go n v p q true g = g n p
       go n v p q false g = rw zero-add at (g v q)
+
+-- one of two tests, the second of which fails; and none of them
+pub first-holds : (a b : Bool) → b ≡ false → (a || b) ≡ true → a ≡ true
+first-holds true b e h = refl
+first-holds false b e h = absurd (false≢true (sym e ∙ h))
+
+pub neither : (a b : Bool) → (a || b) ≡ false → (a ≡ false) × (b ≡ false)
+neither true b h = absurd (false≢true (sym h))
+neither false b h = (refl, h)

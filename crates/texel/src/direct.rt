@@ -1,7 +1,6 @@
 // A texel without a lookup table.
 ghost use mathlib.Core.Path.{_≡_};
 ghost use Prim.Native.Nat.{_+_, _*_, _<_, _≤_};
-ghost use lib.ListN.{length};
 ghost use Rattle.rules.specs.Texdec.{rgba32, same4, nibble};
 ghost use Rattle.rules.specs.Picture.{direct, formatReads};
 ghost use Rattle.texdec.specs.Ia8.{Ia8Table};
@@ -20,9 +19,8 @@ use texdec::nibble::nibble;
 
 // Red and green from the low half of the bank, blue and alpha from the same places of the high half.
 fn rgba32_texel(bank: &[u8], base: usize, palette: u32, rel: usize, odd: bool, x: usize) -> Texel
-    requires { ⌜ length (now bank) ≡ 4096 ⌝ }
-    requires { ⌜ base < 4096 ⌝ }
-    requires { ⌜ rel + 1 < 8388608 ⌝ }
+    requires { ⌜ base ≤ 34359738367 ⌝ }
+    requires { ⌜ rel < 4294967296 ⌝ }
     ensures { λ r. ⌜ Decodes (direct rgba32 base palette odd rel x) (now (bank .entry)) r ⌝ }
 {
     let r = load_byte_rgba32(bank, base, rel, odd, 0);
@@ -46,10 +44,9 @@ fn two_byte_texel(
     odd: bool,
     x: usize,
 ) -> Texel
-    requires { ⌜ length (now bank) ≡ 4096 ⌝ }
     requires { ⌜ formatReads (formatAt place) ≡ 2 ⌝ }
-    requires { ⌜ base < 4096 ⌝ }
-    requires { ⌜ rel + 1 < 8388608 ⌝ }
+    requires { ⌜ base ≤ 34359738367 ⌝ }
+    requires { ⌜ rel < 4294967296 ⌝ }
     ensures { λ r. ⌜ Decodes (direct (formatAt place) base palette odd rel x) (now (bank .entry)) r ⌝ }
 {
     let hi = load_byte(bank, base, rel, odd);
@@ -77,11 +74,10 @@ fn one_byte_texel(
     odd: bool,
     x: usize,
 ) -> Texel
-    requires { ⌜ length (now bank) ≡ 4096 ⌝ }
     requires { ⌜ formatReads (formatAt place) ≡ 1 ⌝ }
-    requires { ⌜ base < 4096 ⌝ }
+    requires { ⌜ base ≤ 34359738367 ⌝ }
     requires { ⌜ palette ≤ 15 ⌝ }
-    requires { ⌜ rel < 8388608 ⌝ }
+    requires { ⌜ rel < 4294967296 ⌝ }
     ensures { λ r. ⌜ (Ia8Table (now (ia8 .entry)) → Decodes (direct (formatAt place) base palette odd rel x) (now (bank .entry)) r) ⌝ }
 {
     let load = load_byte(bank, base, rel, odd);
@@ -110,7 +106,7 @@ fn ci4_texel(palette: u32, x: usize, byte: u8) -> [u8; 4]
 }
 
 // The texel of the format at a place. Of one that the step does not know it reads and gives nothing.
-pub fn direct_texel(
+pub(crate) fn direct_texel(
     bank: &[u8],
     ia8: &[u32; 256],
     place: u32,
@@ -120,10 +116,9 @@ pub fn direct_texel(
     odd: bool,
     x: usize,
 ) -> Texel
-    requires { ⌜ length (now bank) ≡ 4096 ⌝ }
-    requires { ⌜ base < 4096 ⌝ }
+    requires { ⌜ base ≤ 34359738367 ⌝ }
     requires { ⌜ palette ≤ 15 ⌝ }
-    requires { ⌜ rel + 1 < 8388608 ⌝ }
+    requires { ⌜ rel < 4294967296 ⌝ }
     ensures { λ r. ⌜ (Ia8Table (now (ia8 .entry)) → Decodes (direct (formatAt place) base palette odd rel x) (now (bank .entry)) r) ⌝ }
 {
     let reads = format_reads(place);

@@ -10,17 +10,16 @@ use texdec::palette::index_part;
 
 // The kind of a tile's texels in a mode: with a lookup table the part of a byte that an index is, else the pair's place.
 pub fn kind_of(tile: TileDescriptor, tlut_fmt: u32) -> u32
-    requires { ⌜ InRange (tileOf tile) ⌝ }
-    ensures { λ r. ⌜ r ≡ kindOf (tileOf tile) «tlut_fmt» ⌝ }
+    ensures { λ r. ⌜ (InRange (tileOf tile) → r ≡ kindOf (tileOf tile) «tlut_fmt») ⌝ }
 {
     if 2 <= tlut_fmt {
         return index_part(tile.fmt, tile.siz);
     }
-    4 * tile.fmt + tile.siz
+    4 * (tile.fmt % 8) + tile.siz % 4
 }
 
 // The reads of a texel of the format at a place. A format that the step does not know has none.
-pub fn format_reads(place: u32) -> usize
+pub(crate) fn format_reads(place: u32) -> usize
     ensures { λ r. ⌜ r ≡ formatReads (formatAt place) ⌝ }
 {
     match place {
@@ -41,8 +40,7 @@ pub fn format_reads(place: u32) -> usize
 
 // The reads of a texel of a tile in a mode.
 pub fn tile_reads(tile: TileDescriptor, tlut_fmt: u32) -> usize
-    requires { ⌜ InRange (tileOf tile) ⌝ }
-    ensures { λ r. ⌜ r ≡ readsEach (tileOf tile) «tlut_fmt» ⌝ }
+    ensures { λ r. ⌜ (InRange (tileOf tile) → r ≡ readsEach (tileOf tile) «tlut_fmt») ⌝ }
     ensures { λ r. ⌜ r ≤ 4 ⌝ }
 {
     if 2 <= tlut_fmt {

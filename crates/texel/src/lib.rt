@@ -1,9 +1,8 @@
-// One texel: the bytes that it reads, and the four channels that they make. For crate `decoder`, which knows what holds of a
-// tile that was not refused.
-pub mod direct;
+// One texel: the bytes that it reads, and the four channels that they make. Crate `pictures` makes rows of it.
+mod direct;
 pub mod format;
-pub mod load;
-pub mod palette;
+mod load;
+mod palette;
 pub mod table;
 pub mod texel;
 pub mod trail;

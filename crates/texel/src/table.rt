@@ -2,13 +2,14 @@
 // texels, else the texels of IA8.
 ghost use mathlib.Core.Path.{_≡_};
 ghost use Prim.Native.Nat.{_+_, _≤_, _<_};
-ghost use lib.ListN.{length, getD};
+ghost use lib.ListN.{getD};
 ghost use Rattle.rules.specs.Reading.{given};
 ghost use Rattle.rules.specs.Picture.{entryTexel};
 ghost use Rattle.rules.specs.Tile.{InRange};
 ghost use Rattle.rdp.specs.View.{tileOf};
 ghost use Rattle.texdec.specs.Ia8.{channels};
 ghost use Rattle.texel.specs.Tables.{firstEntry, entryCount, entryGives, EntryTable, TexelTable};
+use crate::load::byte_at;
 use crate::load::entry_of;
 use rdp::tile::TileDescriptor;
 use texdec::entry::decode_ia16_entry;
@@ -18,10 +19,10 @@ use texdec::ia8::texel_of;
 
 // The channels of the entry at an address.
 fn load_palette_entry(bank: &[u8], at: usize, tlut_fmt: u32) -> [u8; 4]
-    requires { ⌜ at + 1 < length (now bank) ⌝ }
+    requires { ⌜ at < 68719476736 ⌝ }
     ensures { λ r. ⌜ r ≡ given (entryTexel «tlut_fmt» (getD (now (bank .entry)) at 0) (getD (now (bank .entry)) (at + 1) 0)) (now (bank .entry)) ⌝ }
 {
-    let entry = entry_of(bank[at], bank[at + 1]);
+    let entry = entry_of(byte_at(bank, at), byte_at(bank, at + 1));
     if tlut_fmt == 2 {
         decode_rgba16_entry(entry)
     } else {
@@ -31,8 +32,7 @@ fn load_palette_entry(bank: &[u8], at: usize, tlut_fmt: u32) -> [u8; 4]
 
 // Entry i of a lane as a ready texel.
 fn entry_texel(bank: &[u8], tlut_fmt: u32, lane: u32, i: usize) -> u32
-    requires { ⌜ length (now bank) ≡ 4096 ⌝ }
-    requires { ⌜ (lane ≤ 3) × (i < 256) ⌝ }
+    requires { ⌜ i < 256 ⌝ }
     ensures { λ r. ⌜ channels r ≡ entryGives «tlut_fmt» lane (now (bank .entry)) i ⌝ }
 {
     let entry = load_palette_entry(bank, 2048 + 8 * i + 2 * lane as usize, tlut_fmt);
@@ -58,9 +58,7 @@ fn entry_count(tile: TileDescriptor) -> usize
 
 // They as ready texels, each at its place.
 fn entry_table(bank: &[u8], tile: TileDescriptor, tlut_fmt: u32, lane: u32) -> [u32; 256]
-    requires { ⌜ length (now bank) ≡ 4096 ⌝ }
-    requires { ⌜ InRange (tileOf tile) ⌝ }
-    requires { ⌜ lane ≤ 3 ⌝ }
+    requires { ⌜ tileOf tile .palette ≤ 15 ⌝ }
     ensures { λ r. ⌜ EntryTable (tileOf tile) «tlut_fmt» lane (now (bank .entry)) r ⌝ }
 {
     let first = first_entry(tile);
@@ -74,13 +72,10 @@ fn entry_table(bank: &[u8], tile: TileDescriptor, tlut_fmt: u32, lane: u32) -> [
 }
 
 pub fn texel_table(bank: &[u8], tile: TileDescriptor, tlut_fmt: u32, lane: u32) -> [u32; 256]
-    requires { ⌜ length (now bank) ≡ 4096 ⌝ }
-    requires { ⌜ InRange (tileOf tile) ⌝ }
-    requires { ⌜ lane ≤ 3 ⌝ }
-    ensures { λ r. ⌜ TexelTable (tileOf tile) «tlut_fmt» lane (now (bank .entry)) r ⌝ }
+    ensures { λ r. ⌜ (InRange (tileOf tile) → TexelTable (tileOf tile) «tlut_fmt» lane (now (bank .entry)) r) ⌝ }
 {
-    if 2 <= tlut_fmt {
-        return entry_table(bank, tile, tlut_fmt, lane);
+    if (tlut_fmt < 2) | (15 < tile.palette) {
+        return ia8_table();
     }
-    ia8_table()
+    entry_table(bank, tile, tlut_fmt, lane)
 }

@@ -1,7 +1,6 @@
 // One texel: four channels, and the addresses that it reads, in their order.
 ghost use mathlib.Core.Path.{_≡_};
-ghost use Prim.Native.Nat.{ℕ, _+_, _<_, _≤_};
-ghost use lib.ListN.{length};
+ghost use Prim.Native.Nat.{ℕ};
 ghost use Rattle.rules.specs.Tile.{InRange};
 ghost use Rattle.rules.specs.Picture.{texel};
 ghost use Rattle.rdp.specs.View.{tileOf};
@@ -27,20 +26,27 @@ pub fn decode_texel_lane(
     tile: TileDescriptor,
     kind: u32,
     lane: u32,
-    rel: usize,
+    rel: u32,
     odd: bool,
     x: usize,
 ) -> Texel
-    requires { ⌜ length (now bank) ≡ 4096 ⌝ }
-    requires { ⌜ InRange (tileOf tile) ⌝ }
-    requires { ⌜ lane ≤ 3 ⌝ }
-    requires { ⌜ rel + 1 < 8388608 ⌝ }
-    ensures { λ r. ⌜ ((mode : ℕ) → kind ≡ kindOf (tileOf tile) mode → TexelTable (tileOf tile) mode lane (now (bank .entry)) (now (table .entry)) → Decodes (texel (tileOf tile) mode lane odd rel x) (now (bank .entry)) r) ⌝ }
+    ensures { λ r. ⌜ ((mode : ℕ) → InRange (tileOf tile) → kind ≡ kindOf (tileOf tile) mode → TexelTable (tileOf tile) mode lane (now (bank .entry)) (now (table .entry)) → Decodes (texel (tileOf tile) mode lane odd rel x) (now (bank .entry)) r) ⌝ }
 {
     let word = tile.tmem_addr;
     let base = word.bytes();
+    let palette = tile.palette % 16;
     if WHOLE_BYTE <= kind {
-        return paletted_texel(bank, table, tile, kind, lane, base.0, rel, odd, x);
+        return paletted_texel(
+            bank,
+            table,
+            kind,
+            palette,
+            lane,
+            base.0,
+            rel as usize,
+            odd,
+            x,
+        );
     }
-    direct_texel(bank, table, kind, base.0, tile.palette, rel, odd, x)
+    direct_texel(bank, table, kind, base.0, palette, rel as usize, odd, x)
 }

@@ -39,7 +39,7 @@ returns c =
     refused (a .lookup) (a .bank .now) (tileOf (a .tile)) (a .«tlut-fmt») (a .lane) (a .out .now) (a .seen .now) (a .observe) _ (c .before .first-refusal .ensures) (c .if1 .taken)
 
 tile-reads-requires : tie.Need-tile-reads-requires
-tile-reads-requires c κs = may c .early .tile
+tile-reads-requires c κs = search needs
 
 texel-count-requires : tie.Need-texel-count-requires
 texel-count-requires c κs = may (c .before) .early .tile
@@ -51,18 +51,19 @@ plan-of-requires : tie.Need-plan-of-requires
 plan-of-requires c κs = search needs
 
 texel-table-requires : tie.Need-texel-table-requires
-texel-table-requires c κs = let e = may (c .before .before .before) .early in (e .whole, (e .tile, e .slot))
+texel-table-requires c κs = search needs
 
 kind-of-requires : tie.Need-kind-of-requires
-kind-of-requires c κs = may (c .before .before .before .before) .early .tile
+kind-of-requires c κs = search needs
 
 decode-rows-requires : tie.Need-decode-rows-requires
 decode-rows-requires c κs =
     let l = c .before .before .before .before .before in
     let w = may (l .before .before .before) in
-    let each = l .before .before .tile-reads .ensures .0 in
+    let inside = w .early .tile in
+    let each = l .before .before .tile-reads .ensures .0 inside in
     rw (l .plan-of .ensures) (
-      ready _ _ _ _ _ _ _ _ _ _ _ w (c .before .before .before .before .texel-table .ensures) (c .before .before .before .kind-of .ensures) each,
+      ready _ _ _ _ _ _ _ _ _ _ _ w (c .before .before .before .before .texel-table .ensures inside) (c .before .before .before .kind-of .ensures inside) each,
       (w .room, rw each (w .trail-room)),
     )
 
@@ -82,7 +83,7 @@ returns-2 c =
     let n = l .before in
     let a = n .before .before .before .before .before .before .before .before .before .args in
     done (a .lookup) (a .bank .now) (tileOf (a .tile)) (a .«tlut-fmt») (a .lane) (a .out .now) (a .seen .now) (a .observe) _ _ _ (none (n .before .before))
-    (rw (n .before .tile-reads .ensures .0, n .texel-count .ensures .0))
+    (rw (n .before .tile-reads .ensures .0 (may (n .before .before) .early .tile), n .texel-count .ensures .0))
     (rw (l .plan-of .ensures) at (d .decode-rows .ensures .0))
     (rw (l .plan-of .ensures) at (d .decode-rows .ensures .1))
 

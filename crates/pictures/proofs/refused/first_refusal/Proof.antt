@@ -34,7 +34,7 @@ texel-count-requires : tie.Need-texel-count-requires
 texel-count-requires c κs = tiled c
 
 tile-reads-requires : tie.Need-tile-reads-requires
-tile-reads-requires c κs = tiled (c .before)
+tile-reads-requires c κs = search needs
 
 refuse-requires : tie.Need-refuse-requires
 refuse-requires c κs = search needs
@@ -56,7 +56,7 @@ returns-2 c =
     let r = c .before .before .before in
     let a = r .before .before .before .before .before .before .before .args in
     rw (c .refuse3 .ensures, c .before .refuse2 .ensures, c .before .before .refuse .ensures)
-    (refusal-late (a .observe) (a .lookup) (a .bank .now) (tileOf (a .tile)) (a .«tlut-fmt») (a .lane) (a .out .now) (a .seen .now) _ _ (none (r .before .before)) (r .before .texel-count .ensures .0) (r .tile-reads .ensures .0))
+    (refusal-late (a .observe) (a .lookup) (a .bank .now) (tileOf (a .tile)) (a .«tlut-fmt») (a .lane) (a .out .now) (a .seen .now) _ _ (none (r .before .before)) (r .before .texel-count .ensures .0) (r .tile-reads .ensures .0 (tiled (r .before .before))))
 
 pub first-refusal-spec : {M : Type 1} → statement M
 first-refusal-spec =

@@ -18,7 +18,7 @@ decoded : (c : tie.After-decode-texel-lane) → let a = c .before .before .befor
     Decodes (texel (tileOf (a .plan .tile)) (a .plan .«tlut_fmt») (a .plan .lane) (a .row .odd) (c .before .before .before .rel .result) (c .before .before .x .result)) (a .bank .now) (c .decode-texel-lane .result)
 decoded c =
     let s = c .before .before .before .before .before .before .before in
-    c .decode-texel-lane .ensures (s .args .plan .«tlut_fmt») (s .pre .0 .kind) (s .pre .0 .table)
+    c .decode-texel-lane .ensures (s .args .plan .«tlut_fmt») (s .pre .0 .inside) (s .pre .0 .kind) (s .pre .0 .table)
 
 -- what it gives, tells and counts
 texel-given : (c : tie.After-decode-texel-lane) → let a = c .before .before .before .before .before .before .before .args in
@@ -43,21 +43,17 @@ rel-requires c κs = search needs
 x-requires : tie.Need-x-requires
 x-requires c κs = search needs
 
+cast-decode-texel-lane : tie.Need-cast-decode-texel-lane
+cast-decode-texel-lane c = search needs
+
 decode-texel-lane-requires : tie.Need-decode-texel-lane-requires
-decode-texel-lane-requires c κs =
-    let s = c .before .before .before .before .before .before in
-    let r = s .pre .0 in
-    (r .whole, (r .inside, (r .slot, omega arith)))
+decode-texel-lane-requires c κs = search needs
 
 put-channels-requires : tie.Need-put-channels-requires
 put-channels-requires c κs = search needs
 
 note-reads-requires : tie.Need-note-reads-requires
-note-reads-requires c κs =
-    let d = c .before .before .before .before .before .before .before .before in
-    let s = d .before .before .before .before .before .before .before in
-    let room = rw (s .pre .0 .step, ← s .pre .1 .0, c .before .before .if1 .taken) at (s .pre .1 .1 .1 .1 .1) in
-    ((decoded d .few, decoded d .full), rw (texel-count d) room)
+note-reads-requires c κs = search needs
 
 same-length : tie.Need-same-length
 same-length c = search needs
@@ -69,9 +65,11 @@ returns : tie.Need-returns
 returns c =
     let p = c .before .before .before .before .before .before .before .before in
     let d = p .before .before .before in
-    let seen = d .before .before .before .before .before .before .before .pre .1 .0 in (
+    let s = d .before .before .before .before .before .before .before in
+    let taken = c .before .before .before .before .before .if1 .taken in
+    let room = rw (s .pre .0 .step, ← s .pre .1 .0, taken, ← texel-count d) at (s .pre .1 .1 .1 .1 .1) in (
       rw (← texel-given d) (p .put-channels .ensures),
-      rw (← seen, c .before .before .before .before .before .if1 .taken, ← texel-told d) (c .before .before .note-reads .ensures),
+      rw (← s .pre .1 .0, taken, ← texel-told d) (c .before .before .note-reads .ensures (decoded d .few) room),
     )
 
 same-length-3 : tie.Need-same-length-3
@@ -91,6 +89,7 @@ put-texel-spec =
     (tie.spec
     rel-requires
     x-requires
+    cast-decode-texel-lane
     decode-texel-lane-requires
     put-channels-requires
     note-reads-requires

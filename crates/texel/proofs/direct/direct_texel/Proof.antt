@@ -15,7 +15,7 @@ format-reads-requires c κs = search needs
 one-byte-texel-requires : tie.Need-one-byte-texel-requires
 one-byte-texel-requires c κs =
     let p = c .before .before .before .pre in
-    (p .0, (sym (c .before .format-reads .ensures) ∙ c .match .keys1, (p .1 .0, (p .1 .1 .0, omega arith))))
+    (sym (c .before .format-reads .ensures) ∙ c .match .keys1, (p .0, (p .1 .0, p .1 .1)))
 
 two-byte-texel-requires : tie.Need-two-byte-texel-requires
 two-byte-texel-requires c κs = search needs

@@ -65,7 +65,7 @@ returns-5 c table =
     let l = c .before in
     let s = l .before .before in
     let n = c .match .rest in
-    rw (one-else _ _ _ _ _ _ (s .pre .1 .0) (n .0 .0 .0 .1) (n .0 .0 .1) (n .0 .1) (n .1), l .load-byte .ensures)
+    rw (one-else _ _ _ _ _ _ (s .pre .0) (n .0 .0 .0 .1) (n .0 .0 .1) (n .0 .1) (n .1), l .load-byte .ensures)
     (record { channels = refl; reads = refl; few = omega arith; full = refl })
 
 pub one-byte-texel-spec : {M : Type 1} → statement M

@@ -48,7 +48,7 @@ unfolding direct given trail
 returns-3 c =
     let l = c .before in
     let s = l .before .before .before in
-    rw (two-else _ (s .pre .1 .0) (c .match .rest .0 .1) (c .match .rest .1), l .load-byte2 .ensures, l .before .load-byte .ensures)
+    rw (two-else _ (s .pre .0) (c .match .rest .0 .1) (c .match .rest .1), l .load-byte2 .ensures, l .before .load-byte .ensures)
     (record { channels = refl; reads = refl; few = omega arith; full = refl })
 
 pub two-byte-texel-spec : {M : Type 1} → statement M

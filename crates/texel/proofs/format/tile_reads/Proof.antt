@@ -1,18 +1,17 @@
 -- `texel::format::tile_reads` is the rule's count, of the tile's format. Assumes nothing.
 use Rattle.texel.proofs.Formats.{placed, format-few}
 use Rattle.texel.specs.Steps.{formatAt}
-use Rattle.rules.specs.Texdec.{formatOf}
 use Rattle.rules.specs.Picture.{readsEach, formatReads}
 use borrow.Author.Tests.{le-leb, lt-leb}
 use native.Mathlib.Omega.{arith}
-use mathlib.Core.Path.{_≡_, ap, _∙_}
+use mathlib.Core.Path.{_∙_, ap}
 use borrow.Author.Needs.{needs}
 use Rattle.texel.proofs.format.tile_reads.Statement.{statement}
 use Rattle.texel.proofs.format.tile_reads.Tie as tie
 
 returns : tie.Need-returns
 unfolding readsEach
-returns c = (rw (le-leb _ _ (c .if1 .taken)), omega arith)
+returns c = ((λ inside. rw (le-leb _ _ (c .if1 .taken))), omega arith)
 
 kind-of-requires : tie.Need-kind-of-requires
 kind-of-requires c κs = search needs
@@ -25,10 +24,10 @@ unfolding readsEach
 returns-2 c =
     let s = c .before .before in
     let a = s .before .args in
-    let few = lt-leb 2 (a .«tlut-fmt») (s .if1 .left) in
-    let e : c .format-reads .result ≡ formatReads (formatOf (a .tile .fmt) (a .tile .siz)) =
-    rw (placed _ _ (s .before .pre .siz)) (c .format-reads .ensures ∙ ap (λ n. formatReads (formatAt n)) (rw few at (c .before .kind-of .ensures))) in
-    (rw few e, rw e (format-few (formatOf (a .tile .fmt) (a .tile .siz))))
+    let few = lt-leb 2 (a .«tlut-fmt») (s .if1 .left) in (
+      (λ inside. rw (few, placed _ _ (inside .siz)) (c .format-reads .ensures ∙ ap (λ n. formatReads (formatAt n)) (rw few at (c .before .kind-of .ensures inside)))),
+      rw (c .format-reads .ensures) (format-few (formatAt (c .before .kind-of .result))),
+    )
 
 pub tile-reads-spec : {M : Type 1} → statement M
 tile-reads-spec = tie.close (tie.spec returns kind-of-requires format-reads-requires returns-2)

@@ -1,6 +1,6 @@
 -- `texel::load::load_byte_rgba32` reads at the rule's address. Assumes nothing.
-use native.Mathlib.Omega.{arith}
 use Rattle.rules.proofs.Swaps.{swap-le}
+use native.Mathlib.Omega.{arith}
 use borrow.Author.Needs.{needs}
 use Rattle.texel.proofs.load.load_byte_rgba32.Statement.{statement}
 use Rattle.texel.proofs.load.load_byte_rgba32.Tie as tie
@@ -14,12 +14,12 @@ add-at c = let a = c .before .before .args in omega (arith, swap-le (a .odd) (a 
 add-at-2 : tie.Need-add-at-2
 add-at-2 c = let a = c .before .before .args in omega (arith, swap-le (a .odd) (a .rel))
 
-shared-slice-read-t11 : tie.Need-shared-slice-read-t11
-shared-slice-read-t11 c = search needs
+byte-at-requires : tie.Need-byte-at-requires
+byte-at-requires c κs = search needs
 
 returns : tie.Need-returns
-returns c = rw (c .before .swap-odd-line .ensures)
+returns c = rw (c .byte-at .ensures, c .before .swap-odd-line .ensures)
 
 pub load-byte-rgba32-spec : {M : Type 1} → statement M
 load-byte-rgba32-spec =
-    tie.close (tie.spec swap-odd-line-requires add-at add-at-2 shared-slice-read-t11 returns)
+    tie.close (tie.spec swap-odd-line-requires add-at add-at-2 byte-at-requires returns)

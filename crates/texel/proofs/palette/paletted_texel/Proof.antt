@@ -1,7 +1,6 @@
 -- `texel::palette::paletted_texel` reads the index and then its entry, at the rule's addresses; the table has the entry's texel. Assumes nothing.
 use Rattle.texel.proofs.Texels.{paletted-is}
 use Rattle.texdec.proofs.Palettes.{by-part, part-small}
-use Rattle.rdp.specs.View.{tileOf}
 use native.Mathlib.Omega.{arith}
 use Prim.Native.Nat.{_<_}
 use mathlib.Core.Path.{_∙_}
@@ -16,7 +15,7 @@ byte-small c = omega arith
 small : (c : tie.After-palette-index) → c .palette-index .result < 256
 small c =
     let s = c .before .before .before in
-    rw (c .palette-index .ensures) (part-small (s .args .part) _ (s .args .x) _ (s .pre .1 .0 .palette) (omega arith))
+    rw (c .palette-index .ensures) (part-small (s .args .part) (s .args .palette) (s .args .x) _ (s .pre .0) (byte-small c))
 
 load-byte-masked-requires : tie.Need-load-byte-masked-requires
 load-byte-masked-requires c κs = search needs
@@ -49,13 +48,13 @@ add-t16 : tie.Need-add-t16
 add-t16 c = omega (arith, small (c .before .before))
 
 returns : tie.Need-returns
-returns c mode part table =
+returns c t mode palette base part table =
     let i = c .before .before in
     let l = i .before in
     let a = l .before .before .args in
     let byte = l .load-byte-masked .result .byte in
-    let is = rw (part, by-part (tileOf (a .tile)) (a .x) byte) at (i .palette-index .ensures) in
-    paletted-is _ _ _ _ _ _ _ _ _ _ _ (l .before .before .pre .1 .1 .1 .0) (l .load-byte-masked .ensures) is
+    let is = rw (part, palette, by-part t (a .x) byte) at (i .palette-index .ensures) in
+    paletted-is t mode _ _ _ (a .x) _ _ _ _ _ base (l .load-byte-masked .ensures) is
     (c .texel-bytes .ensures ∙ rw (← is) at (table .at (a .x) byte (byte-small i)))
 
 pub paletted-texel-spec : {M : Type 1} → statement M

@@ -19,7 +19,7 @@ abbrev μ-loop : tie.MeasureT-loop
 ends : (c : tie.At-loop Inv-loop μ-loop) → c .before .before .first-entry .result + c .before .entry-count .result ≤ 256
 ends c =
     let s = c .before .before .before .before in
-    rw (c .before .before .first-entry .ensures, c .before .entry-count .ensures) (entries-end (tileOf (s .args .tile)) (s .pre .1 .0 .palette))
+    rw (c .before .before .first-entry .ensures, c .before .entry-count .ensures) (entries-end (tileOf (s .args .tile)) (s .pre))
 
 first-entry-requires : tie.Need-first-entry-requires Inv-loop μ-loop
 first-entry-requires c κs = search needs
@@ -34,7 +34,7 @@ add-i : tie.Need-add-i Inv-loop μ-loop
 add-i c = omega (arith, ends (c .before))
 
 entry-texel-requires : tie.Need-entry-texel-requires Inv-loop μ-loop
-entry-texel-requires c κs = let p = c .before .before .before .before .before .pre in (p .0, (p .1 .1, omega (arith, ends (c .before))))
+entry-texel-requires c κs = omega (arith, ends (c .before))
 
 mul-table : tie.Need-mul-table Inv-loop μ-loop
 mul-table c = omega (arith, ends (c .before .before))

@@ -5,14 +5,14 @@ use borrow.Author.Needs.{needs}
 use Rattle.texel.proofs.table.load_palette_entry.Statement.{statement}
 use Rattle.texel.proofs.table.load_palette_entry.Tie as tie
 
-shared-slice-read-entry-of : tie.Need-shared-slice-read-entry-of
-shared-slice-read-entry-of c = search needs
+byte-at-requires : tie.Need-byte-at-requires
+byte-at-requires c κs = search needs
 
-add-entry-of : tie.Need-add-entry-of
-add-entry-of c = search needs
+add-byte-at : tie.Need-add-byte-at
+add-byte-at c = search needs
 
-shared-slice-read-entry-of-2 : tie.Need-shared-slice-read-entry-of-2
-shared-slice-read-entry-of-2 c = search needs
+byte-at-requires-2 : tie.Need-byte-at-requires-2
+byte-at-requires-2 c κs = search needs
 
 entry-of-requires : tie.Need-entry-of-requires
 entry-of-requires c κs = search needs
@@ -25,19 +25,23 @@ decode-ia16-entry-requires c κs = search needs
 
 returns : tie.Need-returns
 unfolding given
-returns c = simp (c .decode-rgba16-entry .ensures, c .before .before .entry-of .ensures, eq-eqb _ _ (c .before .if1 .taken))
+returns c =
+    let e = c .before .before in
+    simp (c .decode-rgba16-entry .ensures, e .entry-of .ensures, e .before .byte-at2 .ensures, e .before .before .byte-at .ensures, eq-eqb _ _ (c .before .if1 .taken))
 
 returns-2 : tie.Need-returns-2
 unfolding given
-returns-2 c = simp (c .decode-ia16-entry .ensures, c .before .before .entry-of .ensures, ne-eqb _ _ (c .before .if1 .left))
+returns-2 c =
+    let e = c .before .before in
+    simp (c .decode-ia16-entry .ensures, e .entry-of .ensures, e .before .byte-at2 .ensures, e .before .before .byte-at .ensures, ne-eqb _ _ (c .before .if1 .left))
 
 pub load-palette-entry-spec : {M : Type 1} → statement M
 load-palette-entry-spec =
     tie.close
     (tie.spec
-    shared-slice-read-entry-of
-    add-entry-of
-    shared-slice-read-entry-of-2
+    byte-at-requires
+    add-byte-at
+    byte-at-requires-2
     entry-of-requires
     decode-rgba16-entry-requires
     decode-ia16-entry-requires
