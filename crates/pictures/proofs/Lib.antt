@@ -6,4 +6,5 @@ pub mod Outcomes
 pub mod Placed
 pub mod Refusals
 pub mod Told
+pub mod Trails
 pub mod Within

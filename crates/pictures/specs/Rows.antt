@@ -3,7 +3,7 @@ use mathlib.Core.Path.{_≡_}
 use mathlib.Core.Bool.{Bool, true, false, cond, _&&_}
 use mathlib.Core.List.{List, [], _∷_}
 use Prim.Native.Nat.{ℕ, _+_, _*_, _/_, _%_, _≤_}
-use lib.Dec.{eqb}
+use lib.Dec.{eqb, ltb}
 use lib.ListN.{length, getD}
 use Rattle.rules.specs.Base.{odd}
 use Rattle.rules.specs.Reading.{Reading, upTo, encoded}
@@ -83,3 +83,7 @@ oneRow p r = rowOf (tileOf (p .tile)) (p .«tlut_fmt») (p .lane) (p .width) r
 
 abbrev pub allRows : Plan → Reading
 allRows p = rowsOf (p .lookup) (tileOf (p .tile)) (p .«tlut_fmt») (p .lane) (p .width) (p .rows)
+
+-- the first i of a list, but no more than so many
+abbrev pub capped : ℕ → ℕ → ℕ
+capped i count = cond (ltb i count) i count

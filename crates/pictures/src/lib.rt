@@ -5,3 +5,4 @@ mod plan;
 mod refused;
 mod rows;
 mod sizes;
+mod trail;

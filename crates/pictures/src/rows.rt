@@ -10,8 +10,8 @@ ghost use Rattle.pictures.specs.Rows.{four, RowBounds, Ready, oneTexel, 
 use crate::place::Row;
 use crate::place::row_at;
 use crate::plan::Plan;
+use crate::trail::note_reads;
 use texel::texel::decode_texel_lane;
-use texel::trail::note_reads;
 
 // Four channels go to the front of the picture.
 fn put_channels(channels: [u8; 4], out: &mut [u8])

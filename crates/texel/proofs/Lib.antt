@@ -2,4 +2,3 @@
 pub mod Formats
 pub mod Tables
 pub mod Texels
-pub mod Trails

@@ -3,7 +3,6 @@ use mathlib.Core.Path.{_≡_}
 use mathlib.Core.Bool.{cond}
 use mathlib.Core.List.{List}
 use Prim.Native.Nat.{ℕ, _+_, _*_, _≤_}
-use lib.Dec.{ltb}
 use lib.ListN.{length, getD, take}
 use Rattle.rules.specs.Reading.{Reading, given, trail}
 use Rattle.rules.specs.Tile.{Tile}
@@ -30,7 +29,3 @@ pub record Decodes (r : Reading) (bank : List ℕ) (t : Texel) : Type 0 where
   pub reads : take (t .count) (t .reads) ≡ trail r bank
   pub few : t .count ≤ 4
   pub full : length (t .reads) ≡ 4
-
--- the first i of a list, but no more than so many
-abbrev pub capped : ℕ → ℕ → ℕ
-capped i count = cond (ltb i count) i count

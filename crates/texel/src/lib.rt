@@ -5,4 +5,3 @@ mod load;
 mod palette;
 pub mod table;
 pub mod texel;
-pub mod trail;

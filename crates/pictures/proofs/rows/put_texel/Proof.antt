@@ -53,7 +53,11 @@ put-channels-requires : tie.Need-put-channels-requires
 put-channels-requires c κs = search needs
 
 note-reads-requires : tie.Need-note-reads-requires
-note-reads-requires c κs = search needs
+note-reads-requires c κs =
+    let d = c .before .before .before .before .before .before .before .before in
+    let s = d .before .before .before .before .before .before .before in
+    let room = rw (s .pre .0 .step, ← s .pre .1 .0, c .before .before .if1 .taken) at (s .pre .1 .1 .1 .1 .1) in
+    ((decoded d .few, decoded d .full), rw (texel-count d) room)
 
 same-length : tie.Need-same-length
 same-length c = search needs
@@ -66,10 +70,9 @@ returns c =
     let p = c .before .before .before .before .before .before .before .before in
     let d = p .before .before .before in
     let s = d .before .before .before .before .before .before .before in
-    let taken = c .before .before .before .before .before .if1 .taken in
-    let room = rw (s .pre .0 .step, ← s .pre .1 .0, taken, ← texel-count d) at (s .pre .1 .1 .1 .1 .1) in (
+    let taken = c .before .before .before .before .before .if1 .taken in (
       rw (← texel-given d) (p .put-channels .ensures),
-      rw (← s .pre .1 .0, taken, ← texel-told d) (c .before .before .note-reads .ensures (decoded d .few) room),
+      rw (← s .pre .1 .0, taken, ← texel-told d) (c .before .before .note-reads .ensures),
     )
 
 same-length-3 : tie.Need-same-length-3

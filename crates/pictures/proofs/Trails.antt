@@ -14,7 +14,7 @@ use Rattle.rules.specs.Reading.{encoded}
 use Rattle.rules.proofs.Over.{length-over}
 use Rattle.rules.proofs.Parts.{Parts}
 use Rattle.rules.proofs.Readings.{encoded-append, length-encoded}
-use Rattle.texel.specs.Steps.{capped}
+use Rattle.pictures.specs.Rows.{capped}
 
 -- the addresses of a list
 pub addresses : (l : List ℕ) (n : ℕ) → n ≤ length l → Parts n (λ i. encoded (getD l i 0 ∷ [])) (λ i. encoded (take i l)) 2

@@ -1,30 +1,14 @@
--- `texel::trail::note_one` writes its address behind those before it, or leaves the trail. Assumes nothing.
-use Rattle.texel.proofs.Trails.{addresses, capped-below, capped-next, capped-end, noted-length}
+-- `pictures::trail::note_one` writes its address behind those before it, or leaves the trail. Assumes nothing.
+use Rattle.pictures.proofs.Trails.{addresses, capped-below, capped-next, capped-end}
 use Rattle.rules.proofs.Parts.{again}
-use lib.ListN.{length}
 use native.Mathlib.Omega.{arith}
-use Prim.Native.Nat.{_+_, _<_}
-use mathlib.Core.Path.{ap, _∙_}
+use Prim.Native.Nat.{_+_}
 use borrow.Author.Needs.{needs}
-use Rattle.texel.proofs.trail.note_one.Statement.{statement}
-use Rattle.texel.proofs.trail.note_one.Tie as tie
-
-returns : tie.Need-returns
-returns c old few room e =
-    let a = c .before .before .args in
-    let h = c .if1 .taken in
-    rw (capped-end (a .i + 1) (a .count) (omega arith)) (rw (capped-end (a .i) (a .count) h) at e)
+use Rattle.pictures.proofs.trail.note_one.Statement.{statement}
+use Rattle.pictures.proofs.trail.note_one.Tie as tie
 
 mul-s : tie.Need-mul-s
 mul-s c = search needs
-
-add-if2 : tie.Need-add-if2
-add-if2 c = search needs
-
-returns-2 : tie.Need-returns-2
-returns-2 c old few room e =
-    let a = c .before .before .before .args in
-    absurd (omega (arith, ap length e ∙ noted-length (a .t1) old (a .i) (a .count) room))
 
 mul-note-read : tie.Need-mul-note-read
 mul-note-read c = search needs
@@ -47,22 +31,25 @@ note-read-requires c κs = search needs
 same-length : tie.Need-same-length
 same-length c = search needs
 
-returns-3 : tie.Need-returns-3
-returns-3 c old few room e =
-    let s = c .before .before .before .before .before .before .before in
+returns : tie.Need-returns
+returns c old room e =
+    let s = c .before .before .before .before .before .before in
     let a = s .args in
-    let h : a .i < a .count = omega arith in
+    let h = c .before .before .before .before .if1 .taken in
     rw (capped-next (a .i) (a .count) h)
     (again (addresses (a .t1) (a .count) (omega arith)) (a .i) old _ _ h room (rw (capped-below (a .i) (a .count) h) at e) (c .before .before .note-read .ensures) .0)
+
+returns-2 : tie.Need-returns-2
+returns-2 c old room e =
+    let a = c .before .before .args in
+    let h = c .if1 .left in
+    rw (capped-end (a .i + 1) (a .count) (omega arith)) (rw (capped-end (a .i) (a .count) h) at e)
 
 pub note-one-spec : {M : Type 1} → statement M
 note-one-spec =
     tie.close
     (tie.spec
-    returns
     mul-s
-    add-if2
-    returns-2
     mul-note-read
     array-read-note-read
     sub-note-read
@@ -70,4 +57,5 @@ note-one-spec =
     part-note-read-end
     note-read-requires
     same-length
-    returns-3)
+    returns
+    returns-2)

@@ -1,10 +1,10 @@
--- `texel::trail::note_read` stores the address from the front on. Assumes nothing.
+-- `pictures::trail::note_read` stores the address from the front on. Assumes nothing.
 use Rattle.rules.proofs.Over.{over-sets}
 use Rattle.rules.specs.Reading.{encoded}
 use native.Mathlib.Omega.{arith}
 use borrow.Author.Needs.{needs}
-use Rattle.texel.proofs.trail.note_read.Statement.{statement}
-use Rattle.texel.proofs.trail.note_read.Tie as tie
+use Rattle.pictures.proofs.trail.note_read.Statement.{statement}
+use Rattle.pictures.proofs.trail.note_read.Tie as tie
 
 cast-seen : tie.Need-cast-seen
 cast-seen c = search needs
