@@ -1,10 +1,10 @@
 // Reach, has-load and the lane check at their boundaries: a line for each case.
 ghost use Prim.Native.Nat.{_<_};
+use has_load::has_load;
+use lane_check::lane;
 use rdp::tile::TileDescriptor;
 use rdp::units::LineWords;
 use rdp::units::WordAddr;
-use reach::has_load;
-use reach::lane;
 
 mod show;
 

@@ -145,7 +145,7 @@ fn has_load_case(r: &[u8]) -> bool {
     let mut written = [0u8; 512];
     buffers::made(&mut written, record::four(r, 30), 1);
     buffers::poke(&mut written, record::two(r, 26), record::two(r, 28));
-    let answer = reach::has_load::tile_has_load(record::tile(r), record::mode(r), &written);
+    let answer = has_load::has_load::tile_has_load(record::tile(r), record::mode(r), &written);
     record::answered(r, answer.refusal, answer.yes)
 }
 
@@ -154,7 +154,7 @@ fn lane_case(r: &[u8]) -> bool {
     let mut map = [0u8; 32];
     bank_of(r, &mut bank);
     buffers::stain(&mut map);
-    let refusal = reach::lane::palette_nonreplicated_bytes(&bank, &mut map);
+    let refusal = lane_check::lane::palette_nonreplicated_bytes(&bank, &mut map);
     record::answered(r, refusal, 0) & first_is(r, &map)
 }
 

@@ -1,0 +1,77 @@
+// Whether a tile reaches a byte that a load wrote: a search of its reach in order, which stops at the first meeting.
+ghost use mathlib.Core.Path.{_≡_};
+ghost use lib.ListN.{length};
+ghost use Rattle.rules.specs.Base.{any, isMarked};
+ghost use Rattle.rules.specs.Calls.{hasLoadCall};
+ghost use Rattle.rules.specs.Reach.{reachPlain, hasLoad};
+ghost use Rattle.rdp.specs.View.{tileOf, yesAnswered};
+ghost use Rattle.rules.specs.Tile.{InRange};
+ghost use Rattle.spans.specs.Span.{Bounds, reached};
+use map_words::refused;
+use map_words::word;
+use rdp::answer::YesAnswer;
+use rdp::tile::TileDescriptor;
+use spans::extent;
+use spans::span::Span;
+use tile_sampling::sampling::TileSampling;
+
+// An address of a span is marked.
+fn span_meets(written: &[u8], span: Span) -> bool
+    requires { ⌜ length (now written) ≡ 512 ⌝ }
+    requires { ⌜ Bounds span ⌝ }
+    ensures { λ r. ⌜ r ≡ any (isMarked (now (written .entry))) (reached span) ⌝ }
+{
+    let words = (span.bytes + 7) / 8;
+    for w in 0..words {
+        if word::word_meets(written, span.twice, span.word(w), span.bits(w)) {
+            return true;
+        }
+    }
+    false
+}
+
+// One of a row, up to the period of rows.
+fn rows_meet(written: &[u8], tile: TileDescriptor, tlut: u32) -> bool
+    requires { ⌜ length (now written) ≡ 512 ⌝ }
+    requires { ⌜ InRange (tileOf tile) ⌝ }
+    ensures { λ r. ⌜ r ≡ any (isMarked (now (written .entry))) (reachPlain (tileOf tile) tlut) ⌝ }
+{
+    let bytes = extent::row_bytes(tile);
+    let rows = extent::reach_rows(tile);
+    for y in 0..rows {
+        if span_meets(written, Span::of_row(tile, tlut, y, bytes)) {
+            return true;
+        }
+    }
+    false
+}
+
+// The reach and the map meet.
+fn reach_meets(written: &[u8], tile: TileDescriptor, tlut: u32) -> bool
+    requires { ⌜ length (now written) ≡ 512 ⌝ }
+    requires { ⌜ InRange (tileOf tile) ⌝ }
+    ensures { λ r. ⌜ r ≡ hasLoad (tileOf tile) tlut (now (written .entry)) ⌝ }
+{
+    let sampling = TileSampling::from_tile(tile, tlut);
+    if sampling.lookup {
+        return span_meets(written, Span::whole(tile, tlut));
+    }
+    rows_meet(written, tile, tlut)
+}
+
+// Whether a load wrote a byte that the tile reaches, or the refusal.
+pub fn tile_has_load(tile: TileDescriptor, tlut: u32, written: &[u8]) -> YesAnswer
+    ensures { λ r. ⌜ yesAnswered r ≡ hasLoadCall (tileOf tile) tlut (now (written .entry)) ⌝ }
+{
+    let no = refused::map_refusal(written, tile, tlut);
+    if no != 0 {
+        return YesAnswer {
+            refusal: no,
+            yes: 0,
+        };
+    }
+    YesAnswer {
+        refusal: 0,
+        yes: reach_meets(written, tile, tlut) as u32,
+    }
+}

@@ -1,4 +1,0 @@
--- Laws that the proofs of this crate cite.
-pub mod Axes
-pub mod Reached
-pub mod Joined

@@ -1,0 +1,23 @@
+-- `spans::extent::axis_extent` goes by the rule's test; below 16 the shift loses nothing. Assumes nothing.
+use Prim.Native.Nat.{_*_, _%_, _^_}
+use native.Mathlib.Omega.{arith}
+use borrow.Author.Needs.{needs}
+use Rattle.rules.proofs.Computed.{agree-below}
+use Rattle.spans.proofs.extent.axis_extent.Statement.{statement}
+use Rattle.spans.proofs.extent.axis_extent.Tie as tie
+
+shl-result : tie.Need-shl-result
+shl-result c = search needs
+
+greater-requires : tie.Need-greater-requires
+greater-requires c κs = search needs
+
+returns : tie.Need-returns
+returns c =
+    rw (c .if1 .taken) (agree-below 16 (λ k. 1 * 2 ^ k % 2 ^ 64) (λ k. 2 ^ k) tt (c .before .args .mask) (omega arith))
+
+returns-2 : tie.Need-returns-2
+returns-2 c = rw (c .before .if1 .left) (c .greater .ensures)
+
+pub axis-extent-spec : {M : Type 1} → statement M
+axis-extent-spec = tie.close (tie.spec shl-result greater-requires returns returns-2)
