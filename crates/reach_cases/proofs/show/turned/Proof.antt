@@ -1,20 +1,26 @@
--- `reach_cases::show::flip` stays within the map, whose length does not change. Assumes nothing.
+-- `reach_cases::show::turned` stays within the map, whose length does not change. Assumes nothing.
 use mathlib.Core.Path.{_≡_}
 use Prim.Native.Nat.{_≤_, _-_}
 use native.Mathlib.Omega.{arith}
 use lib.ListN.{length, length-set}
 use borrow.Author.Needs.{needs}
-use Rattle.reach_cases.proofs.show.flip.Statement.{statement}
-use Rattle.reach_cases.proofs.show.flip.Tie as tie
+use Rattle.reach_cases.proofs.show.turned.Statement.{statement}
+use Rattle.reach_cases.proofs.show.turned.Tie as tie
 
 abbrev Inv-loop : tie.InvT-loop
-Inv-loop map₀ end i₀ map i = (i ≤ end) × (length map ≡ length map₀)
+Inv-loop no' map₀ seen₀ end i₀ map seen i = (i ≤ end) × (length map ≡ length map₀)
 
 abbrev μ-loop : tie.MeasureT-loop
-μ-loop map₀ end i₀ map i = end - i
+μ-loop no' map₀ seen₀ end i₀ map seen i = end - i
 
 loop-holds : tie.Need-loop-holds Inv-loop μ-loop
 loop-holds c = search needs
+
+slice-read-with : tie.Need-slice-read-with Inv-loop μ-loop
+slice-read-with c = search needs
+
+with-requires : tie.Need-with-requires Inv-loop μ-loop
+with-requires c κs = search needs
 
 slice-read-map : tie.Need-slice-read-map Inv-loop μ-loop
 slice-read-map c = search needs
@@ -31,23 +37,37 @@ loop-less c = search needs
 loop-again : tie.Need-loop-again Inv-loop μ-loop
 loop-again c = simp length-set (omega arith)
 
+number-requires : tie.Need-number-requires Inv-loop μ-loop
+number-requires c κs = search needs
+
+number-requires-2 : tie.Need-number-requires-2 Inv-loop μ-loop
+number-requires-2 c κs = search needs
+
+number-requires-3 : tie.Need-number-requires-3 Inv-loop μ-loop
+number-requires-3 c κs = search needs
+
 same-length : tie.Need-same-length Inv-loop μ-loop
 same-length c = search needs
 
 returns : tie.Need-returns Inv-loop μ-loop
 returns c = search needs
 
-pub flip-spec : {M : Type 1} → statement M
-flip-spec =
+pub turned-spec : {M : Type 1} → statement M
+turned-spec =
     tie.close
     (tie.spec
     Inv-loop
     μ-loop
     loop-holds
+    slice-read-with
+    with-requires
     slice-read-map
     slice-write-map
     add-i
     loop-less
     loop-again
+    number-requires
+    number-requires-2
+    number-requires-3
     same-length
     returns)
