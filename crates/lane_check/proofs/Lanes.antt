@@ -2,7 +2,7 @@
 use mathlib.Core.Path.{_≡_, refl, ap, sym, _∙_}
 use mathlib.Core.Bool.{Bool, true, false, cond}
 use mathlib.Core.List.{List, [], _∷_, _++_, append-assoc, append-nil}
-use Prim.Native.Nat.{ℕ, zero, suc, _+_, _-_, _*_, _/_, _%_, _^_, _<_, _≤_}
+use Prim.Native.Nat.{ℕ, zero, suc, _+_, _-_, _*_, _%_, _^_, _<_, _≤_}
 use native.Mathlib.Numerals.{add-one}
 use native.Mathlib.Omega.{arith}
 use lib.Bits.{or-zero-l}
@@ -10,7 +10,7 @@ use lib.ListN.{length, replicate}
 use Rattle.rules.specs.Base.{tab, tabFrom, concat, marks}
 use Rattle.rules.specs.Reach.{uneven, unevenSlots, laneMap}
 use Rattle.rules.proofs.Tables.{tab-more, length-tab}
-use Rattle.map_words.specs.Words.{joined, ors}
+use Rattle.map_words.specs.Words.{joined}
 use Rattle.map_words.proofs.Bytes.{joined-none, joined-more, marked-word}
 use Rattle.map_words.proofs.Words.{part-marks}
 use Rattle.lane_check.specs.Slots.{slotBit, slotsByte}

@@ -1,16 +1,16 @@
 -- Laws of one byte of a map: what several bits do at once, or where one of them is.
 use mathlib.Core.Path.{_≡_, refl, ap, sym, _∙_}
-use mathlib.Core.Bool.{Bool, true, false, not, _||_, or-false}
+use mathlib.Core.Bool.{Bool, true, false, not, _||_}
 use mathlib.Core.List.{List, [], _∷_}
 use Prim.Native.Nat.{ℕ, zero, suc, _+_, _-_, _*_, _/_, _%_, _^_, _<_, _≤_, max}
 use native.Mathlib.Omega.{arith}
 use native.Mathlib.Decide.{ℕ-discrete}
-use lib.Bits.{bitAnd, bitOr, and-step, or-step, or-shr, and-shr, or-zero-r, and-zero-r, and-le-l, and-le-r, or-add-and, and-high}
+use lib.Bits.{bitAnd, bitOr, and-step, or-step, or-shr, and-shr, or-zero-r, and-zero-r, and-le-r, or-add-and, and-high}
 use lib.Dec.{eqb}
 use lib.ListN.{getD, set}
 use lib.Pow.{pow-pos, pow-add}
 use borrow.Author.Tests.{eq-eqb, ne-eqb}
-use Rattle.rules.specs.Base.{odd, marked, isMarked}
+use Rattle.rules.specs.Base.{marked, isMarked}
 use Rattle.map_words.specs.Words.{joined, meets}
 
 or-digit : (a b : ℕ) → bitOr a b % 2 ≡ max (a % 2) (b % 2)

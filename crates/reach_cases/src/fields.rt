@@ -22,7 +22,7 @@ fn digit(line: &[u8], column: usize) -> u32
 }
 
 // Number k of the line, of four digits.
-fn number(line: &[u8], k: usize) -> u32
+pub(crate) fn number(line: &[u8], k: usize) -> u32
     requires { ⌜ k < 12 ⌝ }
 {
     let at = 5 * k + 2;
@@ -32,29 +32,20 @@ fn number(line: &[u8], k: usize) -> u32
         + digit(line, at + 3)
 }
 
-// All twelve.
-pub(crate) fn numbers(line: &[u8]) -> [u32; 12] {
-    let mut all = [0u32; 12];
-    for k in 0..12 {
-        all[k] = number(line, k);
-    }
-    all
-}
-
 // A tile of the first ten: format, size, line, address, then clamp, mask and size of each axis.
-pub(crate) fn tile(n: [u32; 12]) -> TileDescriptor {
+pub(crate) fn tile(line: &[u8]) -> TileDescriptor {
     TileDescriptor {
-        fmt: n[0],
-        siz: n[1],
+        fmt: number(line, 0),
+        siz: number(line, 1),
         palette: 0,
-        cms: n[4],
-        cmt: n[7],
-        masks: n[5],
-        maskt: n[8],
-        line: LineWords(n[2]),
-        tmem_addr: WordAddr(n[3]),
-        width: n[6],
-        height: n[9],
+        cms: number(line, 4),
+        cmt: number(line, 7),
+        masks: number(line, 5),
+        maskt: number(line, 8),
+        line: LineWords(number(line, 2)),
+        tmem_addr: WordAddr(number(line, 3)),
+        width: number(line, 6),
+        height: number(line, 9),
     }
 }
 

@@ -10,33 +10,19 @@ pub(crate) fn number(n: u32) {
     io::print_decimal(STDOUT_FILENO, n as u64);
 }
 
-// How many bits are set, and a number that goes by every byte and its place.
-struct Seen {
-    count: u32,
-    digest: u32,
-}
-
-impl Seen {
-    fn with(self, byte: u8) -> Seen {
-        Seen {
-            count: self.count % 65536 + u8::count_ones(byte),
-            digest: (self.digest % 65521 * 31 + byte as u32) % 65521,
-        }
-    }
-}
-
-// A refusal and the marks of a map. Every bit of the map is turned over.
+// A refusal; then how many bits of a map are set, and a number that goes by every byte and its place. Every bit of the map
+// is turned over.
 pub(crate) fn turned(no: u32, map: &mut [u8]) {
-    let mut seen = Seen {
-        count: 0,
-        digest: 0,
-    };
+    let mut count = 0u32;
+    let mut digest = 0u32;
     let end = map.len();
     for i in 0..end {
-        seen = seen.with(map[i]);
-        map[i] = map[i] ^ 255;
+        let byte = map[i];
+        count = count % 65536 + u8::count_ones(byte);
+        digest = (digest % 65521 * 31 + byte as u32) % 65521;
+        map[i] = byte ^ 255;
     }
     number(no);
-    number(seen.count);
-    number(seen.digest);
+    number(count);
+    number(digest);
 }

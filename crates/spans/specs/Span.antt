@@ -1,6 +1,6 @@
 -- What a span reaches, and its words. It only names what the rules' lists of a row and of a lookup share.
 use mathlib.Core.Path.{_≡_}
-use mathlib.Core.Bool.{Bool, true, false, cond}
+use mathlib.Core.Bool.{Bool, true, cond}
 use mathlib.Core.List.{List}
 use Prim.Native.Nat.{ℕ, _+_, _*_, _-_, _/_, _%_, _^_, _≤_, min}
 use lib.Bits.{bitOr}

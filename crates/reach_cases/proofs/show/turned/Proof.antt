@@ -1,29 +1,39 @@
--- `reach_cases::show::turned` stays within the map, whose length does not change. Assumes nothing.
+-- `reach_cases::show::turned` stays within the map, whose length does not change; a byte has eight bits at
+-- most. Assumes nothing.
 use mathlib.Core.Path.{_≡_}
 use Prim.Native.Nat.{_≤_, _-_}
 use native.Mathlib.Omega.{arith}
-use lib.ListN.{length, length-set}
+use lib.Count.{ones-le}
+use lib.ListN.{length, getD, length-set}
 use borrow.Author.Needs.{needs}
 use Rattle.reach_cases.proofs.show.turned.Statement.{statement}
 use Rattle.reach_cases.proofs.show.turned.Tie as tie
 
 abbrev Inv-loop : tie.InvT-loop
-Inv-loop no' map₀ seen₀ end i₀ map seen i = (i ≤ end) × (length map ≡ length map₀)
+Inv-loop no' map₀ count₀ digest₀ end i₀ map count digest i = (i ≤ end) × (length map ≡ length map₀)
 
 abbrev μ-loop : tie.MeasureT-loop
-μ-loop no' map₀ seen₀ end i₀ map seen i = end - i
+μ-loop no' map₀ count₀ digest₀ end i₀ map count digest i = end - i
 
 loop-holds : tie.Need-loop-holds Inv-loop μ-loop
 loop-holds c = search needs
 
-slice-read-with : tie.Need-slice-read-with Inv-loop μ-loop
-slice-read-with c = search needs
+slice-read-byte : tie.Need-slice-read-byte Inv-loop μ-loop
+slice-read-byte c = search needs
 
-with-requires : tie.Need-with-requires Inv-loop μ-loop
-with-requires c κs = search needs
+add-count : tie.Need-add-count Inv-loop μ-loop
+add-count c =
+    let l = c .before .before .loop in
+    omega (arith, ones-le 8 (getD (l .map) (l .i) 0) (omega (arith, c .slice-known2 .given (l .i))))
 
-slice-read-map : tie.Need-slice-read-map Inv-loop μ-loop
-slice-read-map c = search needs
+mul-digest : tie.Need-mul-digest Inv-loop μ-loop
+mul-digest c = search needs
+
+cast-digest : tie.Need-cast-digest Inv-loop μ-loop
+cast-digest c = omega (arith, c .slice-known2 .given (c .before .before .loop .i))
+
+add-digest : tie.Need-add-digest Inv-loop μ-loop
+add-digest c = omega (arith, c .slice-known2 .given (c .before .before .loop .i))
 
 slice-write-map : tie.Need-slice-write-map Inv-loop μ-loop
 slice-write-map c = search needs
@@ -59,9 +69,11 @@ turned-spec =
     Inv-loop
     μ-loop
     loop-holds
-    slice-read-with
-    with-requires
-    slice-read-map
+    slice-read-byte
+    add-count
+    mul-digest
+    cast-digest
+    add-digest
     slice-write-map
     add-i
     loop-less

@@ -1,5 +1,4 @@
 -- `spans::span::Span::whole` is the lookup as a span. Assumes nothing.
-use native.Mathlib.Omega.{arith}
 use borrow.Author.Needs.{needs}
 use Rattle.rdp.specs.View.{tileOf}
 use Rattle.spans.proofs.Spans.{whole-reached, whole-bounds, bank-bytes}
