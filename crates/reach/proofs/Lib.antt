@@ -1,4 +1,4 @@
--- Laws that the proofs of this crate cite.
+-- Laws that the proofs of the crate cite.
 pub mod Axes
+pub mod Spans
 pub mod Reached
-pub mod Joined

@@ -1,59 +1,29 @@
 // Whether a tile reaches a byte that a load wrote: a search of its reach in order, which stops at the first meeting.
 ghost use mathlib.Core.Path.{_≡_};
-ghost use Prim.Native.Nat.{_<_};
 ghost use lib.ListN.{length};
 ghost use Rattle.rules.specs.Base.{any, isMarked};
 ghost use Rattle.rules.specs.Calls.{hasLoadCall};
-ghost use Rattle.rules.specs.Reach.{modulus, doubled, xCount, reachAt, reachRow, reachPlain, reachWhole, hasLoad};
+ghost use Rattle.rules.specs.Reach.{reachPlain, hasLoad};
 ghost use Rattle.rdp.specs.View.{tileOf, yesAnswered};
 ghost use Rattle.rules.specs.Tile.{InRange};
+ghost use Rattle.reach.specs.Span.{Bounds, reached};
 use crate::extent;
-use crate::reach;
-use crate::reach_place;
+use crate::span::Span;
+use crate::word;
+use map_words::refused;
 use rdp::answer::YesAnswer;
 use rdp::tile::TileDescriptor;
 use tile_sampling::sampling::TileSampling;
-use tmem::map;
 
-// The address is marked, or the one that it stands for in the upper half.
-fn doubled_meets(written: &[u8], tile: TileDescriptor, tlut: u32, at: usize) -> bool
+// An address of a span is marked.
+fn span_meets(written: &[u8], span: Span) -> bool
     requires { ⌜ length (now written) ≡ 512 ⌝ }
-    requires { ⌜ at < modulus (tileOf tile) tlut ⌝ }
-    ensures { λ r. ⌜ r ≡ any (isMarked (now (written .entry))) (doubled (tileOf tile) tlut at) ⌝ }
+    requires { ⌜ Bounds span ⌝ }
+    ensures { λ r. ⌜ r ≡ any (isMarked (now (written .entry))) (reached span) ⌝ }
 {
-    if map::is_marked(written, at) {
-        return true;
-    }
-    if reach_place::is_doubled(tile, tlut) {
-        return map::is_marked(written, at + 2048);
-    }
-    false
-}
-
-// What the i-th x of row y reaches is marked.
-fn place_meets(written: &[u8], tile: TileDescriptor, tlut: u32, y: usize, i: usize) -> bool
-    requires { ⌜ length (now written) ≡ 512 ⌝ }
-    requires { ⌜ InRange (tileOf tile) ⌝ }
-    requires { ⌜ (y < 4096) × (i < 4096) ⌝ }
-    ensures { λ r. ⌜ r ≡ any (isMarked (now (written .entry))) (reachAt (tileOf tile) tlut y i) ⌝ }
-{
-    doubled_meets(
-        written,
-        tile,
-        tlut,
-        reach_place::reach_address(tile, tlut, y, i),
-    )
-}
-
-// An address of row y is marked; count is the number of its places.
-fn row_meets(written: &[u8], tile: TileDescriptor, tlut: u32, y: usize, count: usize) -> bool
-    requires { ⌜ length (now written) ≡ 512 ⌝ }
-    requires { ⌜ InRange (tileOf tile) ⌝ }
-    requires { ⌜ (y < 4096) × (count ≡ xCount (tileOf tile) tlut) ⌝ }
-    ensures { λ r. ⌜ r ≡ any (isMarked (now (written .entry))) (reachRow (tileOf tile) tlut y) ⌝ }
-{
-    for i in 0..count {
-        if place_meets(written, tile, tlut, y, i) {
+    let words = (span.bytes + 7) / 8;
+    for w in 0..words {
+        if word::word_meets(written, span.twice, span.word(w), span.bits(w)) {
             return true;
         }
     }
@@ -61,29 +31,15 @@ fn row_meets(written: &[u8], tile: TileDescriptor, tlut: u32, y: usize, count: u
 }
 
 // One of a row, up to the period of rows.
-fn plain_meets(written: &[u8], tile: TileDescriptor, tlut: u32) -> bool
+fn rows_meet(written: &[u8], tile: TileDescriptor, tlut: u32) -> bool
     requires { ⌜ length (now written) ≡ 512 ⌝ }
     requires { ⌜ InRange (tileOf tile) ⌝ }
     ensures { λ r. ⌜ r ≡ any (isMarked (now (written .entry))) (reachPlain (tileOf tile) tlut) ⌝ }
 {
-    let count = reach_place::x_count(tile, tlut);
+    let bytes = extent::row_bytes(tile);
     let rows = extent::reach_rows(tile);
     for y in 0..rows {
-        if row_meets(written, tile, tlut, y, count) {
-            return true;
-        }
-    }
-    false
-}
-
-// One below the modulus.
-fn whole_meets(written: &[u8], tile: TileDescriptor, tlut: u32) -> bool
-    requires { ⌜ length (now written) ≡ 512 ⌝ }
-    ensures { λ r. ⌜ r ≡ any (isMarked (now (written .entry))) (reachWhole (tileOf tile) tlut) ⌝ }
-{
-    let end = reach_place::modulus(tile, tlut);
-    for at in 0..end {
-        if doubled_meets(written, tile, tlut, at) {
+        if span_meets(written, Span::of_row(tile, tlut, y, bytes)) {
             return true;
         }
     }
@@ -98,16 +54,16 @@ fn reach_meets(written: &[u8], tile: TileDescriptor, tlut: u32) -> bool
 {
     let sampling = TileSampling::from_tile(tile, tlut);
     if sampling.lookup {
-        return whole_meets(written, tile, tlut);
+        return span_meets(written, Span::whole(tile, tlut));
     }
-    plain_meets(written, tile, tlut)
+    rows_meet(written, tile, tlut)
 }
 
 // Whether a load wrote a byte that the tile reaches, or the refusal.
 pub fn tile_has_load(tile: TileDescriptor, tlut: u32, written: &[u8]) -> YesAnswer
     ensures { λ r. ⌜ yesAnswered r ≡ hasLoadCall (tileOf tile) tlut (now (written .entry)) ⌝ }
 {
-    let no = reach::map_refusal(written, tile, tlut);
+    let no = refused::map_refusal(written, tile, tlut);
     if no != 0 {
         return YesAnswer {
             refusal: no,

@@ -1,7 +1,7 @@
-// The addresses that a tile can reach, whether one of them was loaded, and the lane check.
+// The addresses that a tile can reach, as a map; and whether it reaches a byte that a load wrote.
 mod extent;
 mod fresh;
 pub mod has_load;
-pub mod lane;
 pub mod reach;
-mod reach_place;
+mod span;
+mod word;

@@ -154,7 +154,7 @@ fn lane_case(r: &[u8]) -> bool {
     let mut map = [0u8; 32];
     bank_of(r, &mut bank);
     buffers::stain(&mut map);
-    let refusal = reach::lane::palette_nonreplicated_bytes(&bank, &mut map);
+    let refusal = lane_check::lane::palette_nonreplicated_bytes(&bank, &mut map);
     record::answered(r, refusal, 0) & first_is(r, &map)
 }
 

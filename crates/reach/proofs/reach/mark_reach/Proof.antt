@@ -2,7 +2,7 @@
 use mathlib.Core.Path.{sym, _∙_}
 use borrow.Author.Needs.{needs}
 use Rattle.rdp.specs.View.{tileOf}
-use Rattle.reach.proofs.Joined.{fresh-marks}
+use Rattle.map_words.proofs.Joined.{fresh-marks}
 use Rattle.reach.proofs.Reached.{reach-whole, reach-plain, reach-map}
 use Rattle.reach.proofs.reach.mark_reach.Statement.{statement}
 use Rattle.reach.proofs.reach.mark_reach.Tie as tie
@@ -13,21 +13,25 @@ clear-requires c κs = search needs
 from-tile-requires : tie.Need-from-tile-requires
 from-tile-requires c κs = search needs
 
-mark-whole-requires : tie.Need-mark-whole-requires
-mark-whole-requires c κs = search needs
+whole-requires : tie.Need-whole-requires
+whole-requires c κs = search needs
 
-mark-plain-requires : tie.Need-mark-plain-requires
-mark-plain-requires c κs = search needs
+mark-span-requires : tie.Need-mark-span-requires
+mark-span-requires c κs = search needs
+
+mark-rows-requires : tie.Need-mark-rows-requires
+mark-rows-requires c κs = search needs
 
 same-length : tie.Need-same-length
 same-length c = search needs
 
 returns : tie.Need-returns
 returns c =
-    let d = c .before .before .before .before in
+    let m = c .before .before in
+    let d = m .before .before .before in
     let e = d .before .before .before .before in
     let a = e .before .before .before .args in
-    fresh-marks _ 512 _ _ _ (e .before .before .before .pre .0) (e .clear .ensures) (c .before .before .mark-whole .ensures)
+    fresh-marks _ 512 _ _ _ (e .before .before .before .pre .0) (e .clear .ensures) (rw (m .before .whole .ensures .0) at (m .mark-span .ensures))
     ∙ reach-map (tileOf (a .tile)) (a .tlut) _ (reach-whole (tileOf (a .tile)) (a .tlut) (sym (d .before .from-tile .ensures .0) ∙ d .if1 .taken))
 
 same-length-2 : tie.Need-same-length-2
@@ -38,7 +42,7 @@ returns-2 c =
     let d = c .before .before .before .before in
     let e = d .before .before .before .before in
     let a = e .before .before .before .args in
-    fresh-marks _ 512 _ _ _ (e .before .before .before .pre .0) (e .clear .ensures) (c .before .before .mark-plain .ensures)
+    fresh-marks _ 512 _ _ _ (e .before .before .before .pre .0) (e .clear .ensures) (c .before .before .mark-rows .ensures)
     ∙ reach-map (tileOf (a .tile)) (a .tlut) _ (reach-plain (tileOf (a .tile)) (a .tlut) (sym (d .before .from-tile .ensures .0) ∙ d .if1 .left))
 
 pub mark-reach-spec : {M : Type 1} → statement M
@@ -47,8 +51,9 @@ mark-reach-spec =
     (tie.spec
     clear-requires
     from-tile-requires
-    mark-whole-requires
-    mark-plain-requires
+    whole-requires
+    mark-span-requires
+    mark-rows-requires
     same-length
     returns
     same-length-2

@@ -1,0 +1,86 @@
+-- `reach::has_load::span_meets` looks at word after word. The loop's invariant: nothing was found at the span's places before
+-- word w. Assumes nothing.
+use mathlib.Core.Path.{_≡_, sym, _∙_}
+use mathlib.Core.Bool.{false}
+use Prim.Native.Nat.{_-_, _≤_}
+use native.Mathlib.Omega.{arith}
+use borrow.Author.Needs.{needs}
+use Rattle.rules.specs.Base.{tab, concat, any, isMarked}
+use Rattle.map_words.proofs.Joined.{none-yet}
+use Rattle.map_words.specs.Words.{wordMeets}
+use Rattle.reach.specs.Span.{reachedAt, reached, wordIn, bitsIn}
+use Rattle.reach.proofs.Spans.{cutAt, cut-none, cut-all, span-any, span-found}
+use Rattle.reach.proofs.has_load.span_meets.Statement.{statement}
+use Rattle.reach.proofs.has_load.span_meets.Tie as tie
+
+abbrev Inv-loop : tie.InvT-loop
+Inv-loop written span words w₀ w =
+    (w ≤ words) × (any (isMarked written) (concat (tab (cutAt span w) (reachedAt span))) ≡ false)
+
+abbrev μ-loop : tie.MeasureT-loop
+μ-loop written span words w₀ w = words - w
+
+add-words : tie.Need-add-words Inv-loop μ-loop
+add-words c = search needs
+
+loop-holds : tie.Need-loop-holds Inv-loop μ-loop
+loop-holds c = (omega arith, rw (cut-none (c .before .before .args .span)) (none-yet _ _))
+
+word-requires : tie.Need-word-requires Inv-loop μ-loop
+word-requires c κs =
+    let p = c .before .before .before .before .pre in
+    (p .1, omega (arith, p .1 .bytes))
+
+bits-requires : tie.Need-bits-requires Inv-loop μ-loop
+bits-requires c κs = omega arith
+
+word-meets-requires : tie.Need-word-meets-requires Inv-loop μ-loop
+word-meets-requires c κs =
+    (c .before .before .before .before .before .before .pre .0, c .before .word .ensures .1)
+
+-- what the test says, of the word that the laws name
+found : (c : tie.After-word-meets Inv-loop μ-loop) → let l = c .before .before .before .before in
+    let e = l .before .before .before .args in
+    c .word-meets .result ≡ wordMeets (e .span .twice) (e .written .now) (wordIn (e .span) (l .loop .w)) (bitsIn (e .span) (l .loop .w))
+found c = c .word-meets .ensures ∙ rw (c .before .before .word .ensures .0, c .before .bits .ensures)
+
+returns : tie.Need-returns Inv-loop μ-loop
+returns c =
+    let l = c .before .before .before .before .before in
+    let e = l .before .before .before .args in
+    sym (span-found (e .span) (l .loop .w) (omega arith) (e .written .now) (sym (found (c .before)) ∙ c .if1 .taken))
+
+add-w : tie.Need-add-w Inv-loop μ-loop
+add-w c = search needs
+
+loop-less : tie.Need-loop-less Inv-loop μ-loop
+loop-less c = search needs
+
+loop-again : tie.Need-loop-again Inv-loop μ-loop
+loop-again c =
+    let l = c .before .before .before .before .before in
+    let e = l .before .before .before .args in
+    (search needs, span-any (e .span) (l .loop .w) (omega arith) (e .written .now) ∙ rw (l .loop .inv .1, sym (found (c .before)) ∙ c .if1 .left))
+
+returns-2 : tie.Need-returns-2 Inv-loop μ-loop
+unfolding reached
+returns-2 c =
+    let l = c .before in
+    rw (← cut-all (l .before .before .before .args .span) (l .loop .w) (omega arith)) (sym (l .loop .inv .1))
+
+pub span-meets-spec : {M : Type 1} → statement M
+span-meets-spec =
+    tie.close
+    (tie.spec
+    Inv-loop
+    μ-loop
+    add-words
+    loop-holds
+    word-requires
+    bits-requires
+    word-meets-requires
+    returns
+    add-w
+    loop-less
+    loop-again
+    returns-2)

@@ -1,0 +1,83 @@
+-- `reach::reach::mark_span` marks word after word. The loop's invariant: the map has the marks of the span's places before
+-- word w. Assumes nothing.
+use mathlib.Core.Path.{_≡_, sym, _∙_}
+use Prim.Native.Nat.{_-_, _≤_}
+use native.Mathlib.Omega.{arith}
+use lib.ListN.{length}
+use borrow.Author.Needs.{needs}
+use Rattle.rules.specs.Base.{tab, concat, marks}
+use Rattle.map_words.proofs.Joined.{marks-none}
+use Rattle.reach.specs.Span.{reachedAt, reached}
+use Rattle.reach.proofs.Spans.{cutAt, cut-none, cut-all, span-marks}
+use Rattle.reach.proofs.reach.mark_span.Statement.{statement}
+use Rattle.reach.proofs.reach.mark_span.Tie as tie
+
+abbrev Inv-loop : tie.InvT-loop
+Inv-loop map₀ span words w₀ map w =
+    (w ≤ words) × (map ≡ marks map₀ (concat (tab (cutAt span w) (reachedAt span)))) × (length map ≡ 512)
+
+abbrev μ-loop : tie.MeasureT-loop
+μ-loop map₀ span words w₀ map w = words - w
+
+add-words : tie.Need-add-words Inv-loop μ-loop
+add-words c = search needs
+
+loop-holds : tie.Need-loop-holds Inv-loop μ-loop
+loop-holds c =
+    let d = c .before .before in
+    (omega arith, rw (cut-none (d .args .span)) (sym (marks-none _ _)), d .pre .0)
+
+word-requires : tie.Need-word-requires Inv-loop μ-loop
+word-requires c κs =
+    let p = c .before .before .before .before .before .pre in
+    (p .1, omega (arith, p .1 .bytes))
+
+bits-requires : tie.Need-bits-requires Inv-loop μ-loop
+bits-requires c κs = omega arith
+
+mark-word-requires : tie.Need-mark-word-requires Inv-loop μ-loop
+mark-word-requires c κs = (c .before .before .before .before .loop .inv .2, c .before .word .ensures .1)
+
+add-w : tie.Need-add-w Inv-loop μ-loop
+add-w c = search needs
+
+loop-less : tie.Need-loop-less Inv-loop μ-loop
+loop-less c = search needs
+
+loop-again : tie.Need-loop-again Inv-loop μ-loop
+loop-again c =
+    let d = c .before .before in
+    let b = d .before in
+    let l = b .before .before .before .before in
+    let e = l .before .before .before .args in (
+      search needs,
+      d .mark-word .ensures ∙ rw (b .before .word .ensures .0, b .bits .ensures, l .loop .inv .1) (sym (span-marks (e .span) (l .loop .w) (omega arith) (e .map .now))),
+      omega (arith, d .mark-word .kept .0),
+    )
+
+same-length : tie.Need-same-length Inv-loop μ-loop
+same-length c = search needs
+
+returns : tie.Need-returns Inv-loop μ-loop
+unfolding reached
+returns c =
+    let l = c .before in
+    let s = l .before .before .before .args .span in
+    l .loop .inv .1 ∙ rw (cut-all s (l .loop .w) (omega arith))
+
+pub mark-span-spec : {M : Type 1} → statement M
+mark-span-spec =
+    tie.close
+    (tie.spec
+    Inv-loop
+    μ-loop
+    add-words
+    loop-holds
+    word-requires
+    bits-requires
+    mark-word-requires
+    add-w
+    loop-less
+    loop-again
+    same-length
+    returns)

@@ -1,0 +1,42 @@
+-- `reach::span::Span::bits`: the bits of a word's bytes, all or every second one. Assumes nothing.
+use native.Mathlib.Omega.{arith}
+use borrow.Author.Needs.{needs}
+use Rattle.reach.specs.Span.{bitsIn}
+use Rattle.reach.proofs.Spans.{all-bits, even-bits}
+use Rattle.reach.proofs.span.Span.bits.Statement.{statement}
+use Rattle.reach.proofs.span.Span.bits.Tie as tie
+
+mul-first-bits : tie.Need-mul-first-bits
+mul-first-bits c = search needs
+
+sub-first-bits : tie.Need-sub-first-bits
+sub-first-bits c = search needs
+
+first-bits-requires : tie.Need-first-bits-requires
+first-bits-requires c κs = search needs
+
+in-halves-requires : tie.Need-in-halves-requires
+in-halves-requires c κs = search needs
+
+returns : tie.Need-returns
+unfolding bitsIn
+returns c =
+    let d = c .before in
+    rw (c .if1 .taken, d .in-halves .ensures, d .before .first-bits .ensures) (even-bits (d .before .before .before .args .self .odd) _ (omega arith))
+
+returns-2 : tie.Need-returns-2
+unfolding bitsIn
+returns-2 c =
+    let d = c .before in
+    rw (c .if1 .left, d .in-halves .ensures, d .before .first-bits .ensures) (all-bits (d .before .before .before .args .self .odd) _ (omega arith))
+
+pub bits-spec : {M : Type 1} → statement M
+bits-spec =
+    tie.close
+    (tie.spec
+    mul-first-bits
+    sub-first-bits
+    first-bits-requires
+    in-halves-requires
+    returns
+    returns-2)

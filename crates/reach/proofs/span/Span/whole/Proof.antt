@@ -1,0 +1,23 @@
+-- `reach::span::Span::whole` is the lookup as a span. Assumes nothing.
+use borrow.Author.Needs.{needs}
+use Rattle.rdp.specs.View.{tileOf}
+use Rattle.reach.proofs.Spans.{whole-reached, whole-bounds, bank-bytes}
+use Rattle.reach.proofs.span.Span.whole.Statement.{statement}
+use Rattle.reach.proofs.span.Span.whole.Tie as tie
+
+is-rgba32-requires : tie.Need-is-rgba32-requires
+is-rgba32-requires c κs = search needs
+
+bank-words-requires : tie.Need-bank-words-requires
+bank-words-requires c κs = search needs
+
+mul-t7 : tie.Need-mul-t7
+mul-t7 c = search needs
+
+returns : tie.Need-returns
+returns c =
+    let a = c .before .before .args in
+    rw (c .bank-words .ensures .0, c .before .is-rgba32 .ensures, bank-bytes) (whole-reached (tileOf (a .tile)) (a .tlut), whole-bounds (tileOf (a .tile)) (a .tlut))
+
+pub whole-spec : {M : Type 1} → statement M
+whole-spec = tie.close (tie.spec is-rgba32-requires bank-words-requires mul-t7 returns)
