@@ -13,7 +13,7 @@ use crate::reach_place;
 use rdp::answer::YesAnswer;
 use rdp::tile::TileDescriptor;
 use tile_sampling::sampling::TileSampling;
-use tmem::map;
+use tmem_bank::map;
 
 // The address is marked, or the one that it stands for in the upper half.
 fn doubled_meets(written: &[u8], tile: TileDescriptor, tlut: u32, at: usize) -> bool

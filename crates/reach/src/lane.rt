@@ -11,7 +11,7 @@ ghost use Rattle.rules.specs.Refusal.{first};
 ghost use Rattle.rdp.specs.View.{refusalAnswered};
 use crate::fresh;
 use rdp::refusal;
-use tmem::map;
+use tmem_bank::map;
 
 // Byte k of slot j, read where it is.
 fn slot_byte(bank: &[u8], j: usize, k: usize) -> u8

@@ -16,7 +16,7 @@ use rdp::refusal;
 use rdp::tile;
 use rdp::tile::TileDescriptor;
 use tile_sampling::sampling::TileSampling;
-use tmem::map;
+use tmem_bank::map;
 
 // An address is marked, and the one that it stands for in the upper half.
 fn mark_doubled(map: &mut [u8], tile: TileDescriptor, tlut: u32, at: usize)

@@ -4,14 +4,14 @@ ghost use mathlib.Core.List.{[], _∷_};
 ghost use Rattle.rules.specs.Refusal.{first};
 ghost use Rattle.rules.specs.Calls.{loadTests, blockCall, tileCall, tlutCall};
 ghost use Rattle.rdp.specs.View.{tileOf, answered};
-use crate::bank::Bank;
-use crate::load_block::write_block_words;
-use crate::load_tile::write_tile_rows;
-use crate::load_tlut::write_tlut;
-use crate::place::load_fields;
 use rdp::answer::Answer;
 use rdp::refusal;
 use rdp::tile::TileDescriptor;
+use tmem_bank::bank::Bank;
+use tmem_rows::load_block::write_block_words;
+use tmem_rows::load_tile::write_tile_rows;
+use tmem_store::place::load_fields;
+use tmem_tlut::load_tlut::write_tlut;
 
 // The first refusal of a load whose own numbers are `outside` their ranges or not; 0 is none.
 fn load_refusal(

@@ -1,0 +1,2 @@
+-- A law that the proofs of the written marks cite.
+pub mod Again

@@ -1,0 +1,67 @@
+-- `tmem_tlut::load_tlut::write_tlut_entry` carries out its eight stores, one after the other. Assumes nothing.
+use mathlib.Core.Path.{refl}
+use Prim.Native.Nat.{_-_}
+use native.Mathlib.Omega.{arith}
+use Rattle.tmem_store.proofs.Carry.{Turn, begin, next, finish}
+use Rattle.tmem_tlut.proofs.Rows.{entryTurn, entry-is}
+use Rattle.tmem_tlut.proofs.load_tlut.write_tlut_entry.Statement.{statement}
+use Rattle.tmem_tlut.proofs.load_tlut.write_tlut_entry.Tie as tie
+
+abbrev Inv-loop : tie.InvT-loop
+Inv-loop bank₀ written₀ src at source k₀ bank written k =
+    Turn 8 (entryTurn (at .0) source) src bank₀ written₀ k bank written
+
+abbrev μ-loop : tie.MeasureT-loop
+μ-loop bank₀ written₀ src at source k₀ bank written k = 8 - k
+
+loop-holds : tie.Need-loop-holds Inv-loop μ-loop
+loop-holds c = begin (c .before .before .before .pre .0)
+
+add-to : tie.Need-add-to Inv-loop μ-loop
+add-to c = omega arith
+
+add-store-byte : tie.Need-add-store-byte Inv-loop μ-loop
+add-store-byte c = omega arith
+
+store-byte-requires : tie.Need-store-byte-requires Inv-loop μ-loop
+store-byte-requires c κs = let d = c .before .before .before in (d .before .loop .inv .lent, omega arith)
+
+add-k : tie.Need-add-k Inv-loop μ-loop
+add-k c = omega arith
+
+loop-less : tie.Need-loop-less Inv-loop μ-loop
+loop-less c = omega arith
+
+loop-again : tie.Need-loop-again Inv-loop μ-loop
+loop-again c =
+    let d = c .before .before .before .before in
+    let l = d .before .before .before .before in
+    next (l .before .loop .inv) (l .loop-test .taken) (d .store-byte .ensures)
+
+same-length : tie.Need-same-length Inv-loop μ-loop
+same-length c = omega arith
+
+same-length-2 : tie.Need-same-length-2 Inv-loop μ-loop
+same-length-2 c = omega arith
+
+returns : tie.Need-returns Inv-loop μ-loop
+returns c =
+    let a = c .before .before .before .before .before .args in
+    (rw (← entry-is (a .at .0) (a .source)) (finish (c .before .loop .inv) (c .loop-test .left)), refl)
+
+pub write-tlut-entry-spec : {M : Type 1} → statement M
+write-tlut-entry-spec =
+    tie.close
+    (tie.spec
+    Inv-loop
+    μ-loop
+    loop-holds
+    add-to
+    add-store-byte
+    store-byte-requires
+    add-k
+    loop-less
+    loop-again
+    same-length
+    same-length-2
+    returns)
