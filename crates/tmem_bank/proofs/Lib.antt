@@ -1,2 +1,3 @@
--- A law that the proofs of the written marks cite.
+-- Laws that the proofs of the written marks cite.
 pub mod Again
+pub mod Halfwords

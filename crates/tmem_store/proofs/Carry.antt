@@ -1,12 +1,13 @@
 -- Laws of stores that are carried out: one list after the other, a table's entry at a time, and no length changes.
 use mathlib.Core.Path.{_≡_, refl, ap, sym, _∙_}
-use mathlib.Core.List.{List, [], _++_}
-use Prim.Native.Nat.{ℕ, zero, suc, _+_, _*_, _<_, _≤_}
+use mathlib.Core.List.{List, [], _∷_, _++_}
+use Prim.Native.Nat.{ℕ, zero, suc, _+_, _*_, _/_, _<_, _≤_}
 use native.Mathlib.Nat.{mul-le-mul, add-mul, one-mul, zero-mul, suc-mul}
 use native.Mathlib.Numerals.{add-one}
 use native.Mathlib.Omega.{arith}
-use lib.ListN.{length, length-append}
-use Rattle.rules.specs.Base.{tab, tabFrom, concat, marks}
+use lib.ListN.{length, getD, set, length-append}
+use lib.Seq.{getD-set-other, set-comm}
+use Rattle.rules.specs.Base.{tab, tabFrom, concat, marked, marks}
 use Rattle.rules.specs.Load.{Store, stored, written}
 use Rattle.rules.proofs.Tables.{concat-more}
 use Rattle.rules.proofs.Loads.{stored-append, written-append, length-stored, length-written}
@@ -40,6 +41,28 @@ module _ {src : List ℕ} {bank map : List ℕ} where
         whole-bank = rw (p .bank-is, length-stored) (w .whole-bank);
         whole-map = rw (p .map-is, length-written) (w .whole-map);
       }
+
+-- two stores in a row that mark other bytes may change places
+marks-swap : (m : List ℕ) (a b : ℕ) → (a / 8 ≡ b / 8 → ⊥) → marked (marked m a) b ≡ marked (marked m b) a
+unfolding marked
+marks-swap m a b h =
+    rw (getD-set-other m (a / 8) (b / 8) _ 0 (λ e. h (sym e)), getD-set-other m (b / 8) (a / 8) _ 0 h)
+    (set-comm m (a / 8) (b / 8) _ _ h)
+
+pub exchanged : {src bank map bank′ map′ : List ℕ} (s t u v : Store) → (t .at / 8 ≡ u .at / 8 → ⊥)
+    → CarriedOut src (s ∷ t ∷ u ∷ v ∷ []) bank map bank′ map′
+    → CarriedOut src (s ∷ u ∷ t ∷ v ∷ []) bank map bank′ map′
+unfolding stored written marks
+exchanged {src} {bank} {map} s t u v h p =
+    record {
+      bank-is =
+          p .bank-is
+          ∙ ap (λ b. set b (v .at) (byte v)) (set-comm (set bank (s .at) (byte s)) (t .at) (u .at) (byte t) (byte u) (λ e. h (ap (λ k. k / 8) e)));
+      map-is = p .map-is ∙ ap (λ m. marked m (v .at)) (marks-swap (marked map (s .at)) (t .at) (u .at) h);
+    }
+  where
+    byte : Store → ℕ
+    byte x = getD src (x .from) 0
 
 -- A loop that carries out the lists of a table, f 0 to f (n - 1), before turn i.
 pub record Turn (n : ℕ) (f : ℕ → List Store) (src bank map : List ℕ) (i : ℕ) (bank′ map′ : List ℕ) : Type 0 where

@@ -1,9 +1,10 @@
 // Where a word goes: the fields that a load takes of its tile, the row's word, the column's halfword, and the list of four.
 ghost use mathlib.Core.Path.{_≡_};
-ghost use Prim.Native.Nat.{_<_};
-ghost use Rattle.rules.specs.Load.{loadTile, imageTile, halfword, base, firstSpot, put, list4};
+ghost use Prim.Native.Nat.{_%_, _<_};
+ghost use lib.ListN.{getD};
+ghost use Rattle.rules.specs.Load.{loadTile, imageTile, halfword, base, firstSpot, list4};
 ghost use Rattle.rdp.specs.View.{tileOf};
-ghost use Rattle.tmem_store.specs.Part.{loadOf, Ranged};
+ghost use Rattle.tmem_store.specs.Part.{loadOf, Ranged, Spots};
 use rdp::tile::TileDescriptor;
 use rdp::units::LineWords;
 use rdp::units::WordAddr;
@@ -79,24 +80,13 @@ pub fn first_halfword(row: WordAddr, halfword: usize) -> usize
     (4 * row.0 as usize + halfword) & 0x7fd
 }
 
-// The byte address of halfword n in its place of the list of four.
-fn put_index(indices: [usize; 4], n: usize) -> [usize; 4]
-    ensures { λ r. ⌜ r ≡ put indices n ⌝ }
+// Place k of the list of four: where the word's halfword k goes. Of a word that starts one halfword late, one place is the next word's.
+pub fn place_index(first: usize, odd: usize, k: usize) -> usize
+    requires { ⌜ Spots first odd ⌝ }
+    requires { ⌜ k < 4 ⌝ }
+    ensures { λ r. ⌜ r ≡ getD (list4 first odd) k 0 ⌝ }
+    ensures { λ r. ⌜ (r < 2048) × (r % 2 ≡ 0) ⌝ }
 {
-    let mut l = indices;
-    let k = n % 4;
-    l[k] = 2 * (n % 1024);
-    l
-}
-
-// The list of four: where each halfword of the word goes.
-pub fn load_indices(first: usize, odd: usize) -> [usize; 4]
-    requires { ⌜ first < 2048 ⌝ }
-    ensures { λ r. ⌜ r ≡ list4 first odd ⌝ }
-{
-    let none = [0usize; 4];
-    let one = put_index(none, first % 2048 ^ odd);
-    let two = put_index(one, (first + 1) % 2048 ^ odd);
-    let three = put_index(two, (first + 2) % 2048 ^ odd);
-    put_index(three, (first + 3) % 2048 ^ odd)
+    let late = (k == odd) as usize * (first % 4);
+    (first / 4 * 4 + k + 4 * late) % 1024 * 2
 }

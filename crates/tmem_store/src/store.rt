@@ -1,11 +1,9 @@
-// One store of a load, which marks its address, and two of them.
+// The stores of a halfword. Every store of a load is one of such two, and they mark their addresses.
 ghost use mathlib.Core.Path.{_≡_};
-ghost use mathlib.Core.List.{[], _∷_};
-ghost use Prim.Native.Nat.{_<_, _^_};
+ghost use Prim.Native.Nat.{_%_, _<_, _^_};
 ghost use lib.ListN.{getD};
 ghost use Rattle.rules.specs.Tile.{bankSize};
-ghost use Rattle.rules.specs.Load.{store};
-ghost use Rattle.tmem_store.specs.Part.{Lent, placeOf, CarriedOut};
+ghost use Rattle.tmem_store.specs.Part.{Lent, placeOf, halfStores, CarriedOut};
 use rdp::units::ByteAddr;
 use tmem_bank::written::mark_in;
 
@@ -16,14 +14,22 @@ fn source_byte(src: &[u8], offset: usize) -> u8
     if offset < src.len() { src[offset] } else { 0 }
 }
 
-// One store, which marks its address.
-pub fn store_byte(bank: &mut [u8], written: &mut [u8], src: &[u8], at: ByteAddr, offset: usize)
+// The two stores of a halfword, at an even address, which mark both of its addresses.
+pub fn store_halfword(
+    bank: &mut [u8],
+    written: &mut [u8],
+    src: &[u8],
+    at: ByteAddr,
+    offset: usize,
+    next_offset: usize,
+)
     requires { ⌜ Lent (now bank) (now written) ⌝ }
-    requires { ⌜ at .0 < bankSize ⌝ }
-    ensures { λ _. ⌜ CarriedOut (now (src .entry)) (store (at .0) offset ∷ []) (now (bank .entry)) (now (written .entry)) (now (bank .exit)) (now (written .exit)) ⌝ }
+    requires { ⌜ (at .0 < bankSize) × (at .0 % 2 ≡ 0) ⌝ }
+    ensures { λ _. ⌜ CarriedOut (now (src .entry)) (halfStores (at .0) offset «next_offset») (now (bank .entry)) (now (written .entry)) (now (bank .exit)) (now (written .exit)) ⌝ }
 {
     let i = at.0;
     bank[i] = source_byte(src, offset);
+    bank[i + 1] = source_byte(src, next_offset);
     mark_in(written, i);
 }
 
@@ -40,27 +46,24 @@ fn byte_place(source: usize, replicate: bool, k: usize) -> usize
     }
 }
 
-// Two stores, one after the other: bytes k and next_k of a word.
+// The same of a word's bytes k and next_k.
 pub fn store_pair(
     bank: &mut [u8],
     written: &mut [u8],
     src: &[u8],
     at: ByteAddr,
-    next_at: ByteAddr,
     source: usize,
     replicate: bool,
     k: usize,
     next_k: usize,
 )
     requires { ⌜ Lent (now bank) (now written) ⌝ }
-    requires { ⌜ at .0 < bankSize ⌝ }
-    requires { ⌜ «next_at» .0 < bankSize ⌝ }
+    requires { ⌜ (at .0 < bankSize) × (at .0 % 2 ≡ 0) ⌝ }
     requires { ⌜ source < 2 ^ 32 ⌝ }
     requires { ⌜ (k < 8) × («next_k» < 8) ⌝ }
-    ensures { λ _. ⌜ CarriedOut (now (src .entry)) (store (at .0) (placeOf source replicate k) ∷ store («next_at» .0) (placeOf source replicate «next_k») ∷ []) (now (bank .entry)) (now (written .entry)) (now (bank .exit)) (now (written .exit)) ⌝ }
+    ensures { λ _. ⌜ CarriedOut (now (src .entry)) (halfStores (at .0) (placeOf source replicate k) (placeOf source replicate «next_k»)) (now (bank .entry)) (now (written .entry)) (now (bank .exit)) (now (written .exit)) ⌝ }
 {
     let offset = byte_place(source, replicate, k);
     let next_offset = byte_place(source, replicate, next_k);
-    store_byte(bank, written, src, at, offset);
-    store_byte(bank, written, src, next_at, next_offset);
+    store_halfword(bank, written, src, at, offset, next_offset);
 }

@@ -12,7 +12,7 @@ use tmem_bank::bank::Bank;
 use tmem_rows::words::Run;
 use tmem_rows::words::write_words;
 use tmem_store::place::LoadTile;
-use tmem_store::store::store_byte;
+use tmem_store::store::store_halfword;
 
 // The entries that a step of the hardware's load covers.
 fn tlut_entries(image_siz: u32) -> usize
@@ -103,14 +103,14 @@ fn write_tlut_entry(
     source: usize,
 ) -> u32
     requires { ⌜ Lent (now bank) (now written) ⌝ }
-    requires { ⌜ at .0 + 8 ≤ bankSize ⌝ }
+    requires { ⌜ (at .0 + 8 ≤ bankSize) × (at .0 % 2 ≡ 0) ⌝ }
     requires { ⌜ source < 1024 * 65536 ⌝ }
     ensures { λ _. ⌜ CarriedOut (now (src .entry)) (tab 8 (λ k. store (at .0 + k) (source + k % 2))) (now (bank .entry)) (now (written .entry)) (now (bank .exit)) (now (written .exit)) ⌝ }
     ensures { λ r. ⌜ r ≡ 8 ⌝ }
 {
-    for k in 0..8 {
-        let to = at.0 + k;
-        store_byte(bank, written, src, ByteAddr(to), source + k % 2);
+    for k in 0..4 {
+        let to = at.0 + 2 * k;
+        store_halfword(bank, written, src, ByteAddr(to), source, source + 1);
     }
     8
 }

@@ -1,41 +1,29 @@
 // A word load: eight stores, in one of two shapes.
 ghost use mathlib.Core.Path.{_≡_};
+ghost use mathlib.Core.Bool.{cond};
 ghost use Prim.Native.Nat.{_<_, _≤_, _^_};
+ghost use lib.Dec.{eqb};
 ghost use lib.ListN.{length};
-ghost use Rattle.rules.specs.Load.{list4, upper, lowBytes, highBytes, splitStores, wholeStores, wordStores};
-ghost use Rattle.tmem_store.specs.Part.{loadOf, Ranged, Lent, placeOf, CarriedOut};
+ghost use Rattle.rules.specs.Load.{list4, upper, splitStores, wholeStores, wordStores};
+ghost use Rattle.tmem_store.specs.Part.{loadOf, Ranged, Lent, Spots, placeOf, CarriedOut};
 use rdp::units::ByteAddr;
 use tmem_bank::bank::Bank;
 use tmem_store::place::LoadTile;
 use tmem_store::place::column_halfword;
 use tmem_store::place::first_halfword;
-use tmem_store::place::load_indices;
+use tmem_store::place::place_index;
 use tmem_store::place::row_word;
 use tmem_store::store::store_pair;
 
-// The bytes of a word that go to the lower half of the bank.
-fn low_bytes(tile: LoadTile) -> [usize; 4]
-    ensures { λ r. ⌜ r ≡ lowBytes (loadOf tile) ⌝ }
+// How far apart the two bytes of a halfword stand in a word that goes to both halves.
+fn byte_step(tile: LoadTile) -> usize
+    ensures { λ r. ⌜ r ≡ cond (eqb (tile .fmt) 1) 2 1 ⌝ }
+    ensures { λ r. ⌜ r ≤ 2 ⌝ }
 {
-    if tile.fmt == 1 {
-        [0, 2, 4, 6]
-    } else {
-        [0, 1, 4, 5]
-    }
+    if tile.fmt == 1 { 2 } else { 1 }
 }
 
-// The bytes that go to the upper half.
-fn high_bytes(tile: LoadTile) -> [usize; 4]
-    ensures { λ r. ⌜ r ≡ highBytes (loadOf tile) ⌝ }
-{
-    if tile.fmt == 1 {
-        [1, 3, 5, 7]
-    } else {
-        [2, 3, 6, 7]
-    }
-}
-
-// A word that goes to both halves of the bank: at each address a byte of the low ones, and 2,048 further a high one.
+// A word that goes to both halves of the bank: of each four bytes two at a place of the list, and the other two 2,048 further.
 fn write_split_word(
     bank: &mut [u8],
     written: &mut [u8],
@@ -48,27 +36,35 @@ fn write_split_word(
     replicate: bool,
 )
     requires { ⌜ Lent (now bank) (now written) ⌝ }
-    requires { ⌜ first < 2048 ⌝ }
+    requires { ⌜ Spots first odd ⌝ }
     requires { ⌜ start ≤ 2 ⌝ }
     requires { ⌜ source < 2 ^ 32 ⌝ }
     ensures { λ _. ⌜ CarriedOut (now (src .entry)) (splitStores (loadOf tile) (list4 first odd) start (placeOf source replicate)) (now (bank .entry)) (now (written .entry)) (now (bank .exit)) (now (written .exit)) ⌝ }
 {
-    let indices = load_indices(first, odd);
-    let low = low_bytes(tile);
-    let high = high_bytes(tile);
-    for i in 0..4 {
-        let address = indices[start + i / 2] + i % 2;
-        let upper = address + Bank::PALETTE_BASE;
+    let step = byte_step(tile);
+    for i in 0..2 {
+        let low = place_index(first, odd, start + i);
+        let high = low + Bank::PALETTE_BASE;
+        let k = 4 * i;
         store_pair(
             bank,
             written,
             src,
-            ByteAddr(address),
-            ByteAddr(upper),
+            ByteAddr(low),
             source,
             replicate,
-            low[i],
-            high[i],
+            k,
+            k + step,
+        );
+        store_pair(
+            bank,
+            written,
+            src,
+            ByteAddr(high),
+            source,
+            replicate,
+            k + 3 - step,
+            k + 3,
         );
     }
 }
@@ -84,22 +80,19 @@ fn write_whole_word(
     replicate: bool,
 )
     requires { ⌜ Lent (now bank) (now written) ⌝ }
-    requires { ⌜ first < 2048 ⌝ }
-    requires { ⌜ odd ≤ 2 ⌝ }
+    requires { ⌜ Spots first odd ⌝ }
     requires { ⌜ source < 2 ^ 32 ⌝ }
     ensures { λ _. ⌜ CarriedOut (now (src .entry)) (wholeStores (list4 first odd) (upper first) odd (placeOf source replicate)) (now (bank .entry)) (now (written .entry)) (now (bank .exit)) (now (written .exit)) ⌝ }
 {
-    let indices = load_indices(first, odd);
     let high = 2 * (first & 0x400);
     for k in 0..4 {
-        let address = indices[k] + high;
+        let address = place_index(first, odd, k) + high;
         let byte = 2 * (k ^ odd);
         store_pair(
             bank,
             written,
             src,
             ByteAddr(address),
-            ByteAddr(address + 1),
             source,
             replicate,
             byte,

@@ -1,8 +1,8 @@
 -- `tmem_bank::written::mark_in` meets its contract: a walk of its MIR, by hand. The parameter's borrow goes into a struct in a local, and the local is lent to `mark`, for a lifetime that is made for the call, within the borrow's own.
 -- After the call the lifetime is ended, the local comes back at the record that `mark` ensures, and what its borrow says last is the parameter's last list. All that the proof knows of `mark` is that it meets its contract.
 -- Assumes nothing.
-use mathlib.Core.Path.{_≡_, refl, sym, ap, subst}
-use Prim.Native.Nat.{ℕ, _/_, _<_, _^_}
+use mathlib.Core.Path.{_≡_, refl, sym, ap, subst, _∙_}
+use Prim.Native.Nat.{ℕ, _+_, _/_, _%_, _<_, _^_}
 use mathlib.Core.List.{[], _∷_, List}
 use lib.Dec.{T as Holds}
 use lib.ListN.{length}
@@ -50,7 +50,7 @@ use denote.Signature.{plain}
 use denote.Signature.Struct.{makes}
 use Rattle.rules.specs.Base.{marked}
 use Rattle.rules.proofs.Maps.{length-marked}
-use Rattle.tmem_bank.specs.Marks.{markedIn}
+use Rattle.tmem_bank.specs.Marks.{bothMarked, markedIn}
 use Rattle.tmem_bank.specs.declared.written.Written.{Written}
 use Rattle.tmem_bank.proofs.written.Written as T
 use Rattle.tmem_bank.proofs.written.Written.Laws as T′
@@ -92,7 +92,7 @@ module _ {M : Type 1} (𝓤 : URA M) (H : Heap 𝓤) (A : Atoms 𝓤) (W : Given
   mach l = vstruct (vcons (s l) vnil)
 
   abbrev zs : List ℕ
-  zs = marked ys n
+  zs = bothMarked ys n
 
   abbrev Arg : Type 0
   Arg = RefT (List ℕ) × (ℕ × Unit {0})
@@ -124,7 +124,7 @@ module _ {M : Type 1} (𝓤 : URA M) (H : Heap 𝓤) (A : Atoms 𝓤) (W : Given
   abbrev to-mark : ℕ → ℕ → GName → Mark 𝓤 H A at-mem run .Ghost
   to-mark ν l δ = (((ν ∷ κ, (κ, tt)), (q₁, (q₂, tt)), (meet-⊑-right (ν ∷ []) κ, tt), (lent l δ, (n, tt)), (vptr l 0 ∷ [], (vint w64 n ∷ [], tt))), tt)
 
-  goes : n / 8 < length ys → (ν l : ℕ) (δ : GName) → ent 𝓤 (sep 𝓤 (A .lft (ν ∷ κ) q₁) (sep 𝓤 (A .lft κ q₂) (sem 𝓤 H A (Lent ν l δ)))) (Mark 𝓤 H A at-mem run .pre (to-mark ν l δ))
+  goes : (n / 8 < length ys) × (n % 2 ≡ 0) → (ν l : ℕ) (δ : GName) → ent 𝓤 (sep 𝓤 (A .lft (ν ∷ κ) q₁) (sep 𝓤 (A .lft κ q₂) (sem 𝓤 H A (Lent ν l δ)))) (Mark 𝓤 H A at-mem run .pre (to-mark ν l δ))
   goes within ν l δ =
       qed W (‵ (flft (ν ∷ κ) q₁) ∷ ‵ (flft κ q₂) ∷ ‵ (Lent ν l δ) ∷ []) ∵ says ! within $ nothing ! $ move ! (2 ∷ 0 ∷ []) $ join ! $ move ! (1 ∷ 0 ∷ []) $ join ! $ frame ! $
       nothing ! $ owned ! usize (Is usize) (uint-makes 𝓤 H A W w64) n _ (refl, fits) $ fjoin ! $ move ! (1 ∷ 0 ∷ []) $ fjoin ! $ done !
@@ -132,7 +132,7 @@ module _ {M : Type 1} (𝓤 : URA M) (H : Heap 𝓤) (A : Atoms 𝓤) (W : Given
   exits : ent 𝓤 (sep 𝓤 (A .lft κ q) (sem 𝓤 H A (finally u8 γ zs))) (Post vunit)
   exits =
       qed W (‵ (flft κ q) ∷ ‵ (finally u8 γ zs) ∷ []) ∵
-      suffices ! _ (ends-at 𝓤 H A mark-in.ended stayed (mark-in.clauses 𝓤 H A at-mem run) W (((κ, tt), (q, tt), tt, a, vals), tt) vunit tt (zs, (tt, tt)) (length-marked ys n, (tt, tt))) $ says ! refl $
+      suffices ! _ (ends-at 𝓤 H A mark-in.ended stayed (mark-in.clauses 𝓤 H A at-mem run) W (((κ, tt), (q, tt), tt, a, vals), tt) vunit tt (zs, (tt, tt)) (length-marked (marked ys n) (n + 1) ∙ length-marked ys n, (tt, tt))) $ says ! refl $
       nothing ! $ move ! (1 ∷ 0 ∷ []) $ join ! $ frame ! $ nothing ! $ owned ! usize (Is usize) (uint-makes 𝓤 H A W w64) n _ (refl, fits) $ fjoin ! $ move ! (1 ∷ 0 ∷ []) $ fjoin ! $
       feqI ! (List Val) (vunit ∷ []) (vunit ∷ []) refl $ move ! (1 ∷ 0 ∷ []) $ done !
 
@@ -148,7 +148,7 @@ module _ {M : Type 1} (𝓤 : URA M) (H : Heap 𝓤) (A : Atoms 𝓤) (W : Given
       use1 W (‵ (finally u8 γ zs)) (res-finally 𝓤 H A W (named 1) κ u8 γ zs) $ keep ! (0 ∷ []) $ done !)
 
   module _ (C : Calls 𝓤 H) (Λ : Loops 𝓤 H) (fm : FmC 𝓤 H (W .laws) C) (known : Triple 𝓤 (C #tmem-bank·written·mark) (Mark 𝓤 H A at-mem run)) where
-    walk : Room u8 (length ys) → n / 8 < length ys → ent 𝓤 (onEntry 𝓤 H A mark-in.signature (κ, tt) (q, tt) a vals) (WpFn 𝓤 H C Λ code.function (s ys ∷ vint w64 n ∷ []) Post)
+    walk : Room u8 (length ys) → (n / 8 < length ys) × (n % 2 ≡ 0) → ent 𝓤 (onEntry 𝓤 H A mark-in.signature (κ, tt) (q, tt) a vals) (WpFn 𝓤 H C Λ code.function (s ys ∷ vint w64 n ∷ []) Post)
     unfolding partOf
     walk room within =
         qed W ((‵ (flft κ q) ⊛ ‵ ftrue) ∷ ‵ (owns (MutSlice (named 0) κ u8 ∷ usize ∷ []) a vals) ∷ []) ∵ enter ! C Λ code.function (s ys ∷ vint w64 n ∷ []) _ $
@@ -189,7 +189,7 @@ module _ {M : Type 1} (𝓤 : URA M) (H : Heap 𝓤) (A : Atoms 𝓤) (W : Given
 module _ {M : Type 1} (𝓤 : URA M) (H : Heap 𝓤) (A : Atoms 𝓤) (W : Given 𝓤 H A) (mem : Memory → SProp 𝓤) (run : Routine → Fun 𝓤) where
   mark-in-walks : (C : Calls 𝓤 H) (Λ : Loops 𝓤 H) → FmC 𝓤 H (W .laws) C → Triple 𝓤 (C #tmem-bank·written·mark) (Mark 𝓤 H A mem run) → Walks 𝓤 H A mark-in.ended stayed (WpFn 𝓤 H C Λ code.function) (mark-in.clauses 𝓤 H A mem run)
   mark-in-walks C Λ fm known = walked 𝓤 H A mark-in.ended stayed (mark-in.clauses 𝓤 H A mem run) (WpFn 𝓤 H C Λ code.function) (λ κs. (slice-vals, (uint-vals w64, tt))) (λ κs. (mut-slice-tells (named 0) (κs .0) u8, (uint-tells w64, tt)))
-      (λ κs qs bounds a g are. needs 𝓤 (a .1 .0 / 8 < length (a .0 .now)) _ (λ within. walk 𝓤 H A W mem run (κs .0) (qs .0) (a .0 .ptr .0) (a .0 .ptr .1) (a .0 .name) (a .0 .now) (a .1 .0) (are .1 .0 .1) C Λ fm known (are .0 .0 .1) within))
+      (λ κs qs bounds a g are. needs 𝓤 ((a .1 .0 / 8 < length (a .0 .now)) × (a .1 .0 % 2 ≡ 0)) _ (λ within. walk 𝓤 H A W mem run (κs .0) (qs .0) (a .0 .ptr .0) (a .0 .ptr .1) (a .0 .name) (a .0 .now) (a .1 .0) (are .1 .0 .1) C Λ fm known (are .0 .0 .1) within))
 
 mark-in-meets : {M : Type 1} (𝓤 : URA M) (H : Heap 𝓤) (A : Atoms 𝓤) → Given 𝓤 H A → (mem : Memory → SProp 𝓤) (run : Routine → Fun 𝓤) (𝓣 : Tables 𝓤 H) → Triple 𝓤 (𝓣 .C #tmem-bank·written·mark) (Mark 𝓤 H A mem run)
     → Meets 𝓤 H A mark-in.signature (WpFn 𝓤 H (𝓣 .C) (𝓣 .Λ) code.function) (mark-in.spec 𝓤 H A mem run)

@@ -1,6 +1,5 @@
--- `tmem_store::store::store_pair` carries out two lists of one store, one after the other. Assumes nothing.
+-- `tmem_store::store::store_pair` stores a halfword from the places of the two bytes. Assumes nothing.
 use borrow.Author.Needs.{needs}
-use Rattle.tmem_store.proofs.Carry.{after}
 use Rattle.tmem_store.proofs.store.store_pair.Statement.{statement}
 use Rattle.tmem_store.proofs.store.store_pair.Tie as tie
 
@@ -10,11 +9,8 @@ byte-place-requires c κs = search needs
 byte-place-requires-2 : tie.Need-byte-place-requires-2
 byte-place-requires-2 c κs = search needs
 
-store-byte-requires : tie.Need-store-byte-requires
-store-byte-requires c κs = search needs
-
-store-byte-requires-2 : tie.Need-store-byte-requires-2
-store-byte-requires-2 c κs = search needs
+store-halfword-requires : tie.Need-store-halfword-requires
+store-halfword-requires c κs = search needs
 
 same-length : tie.Need-same-length
 same-length c = search needs
@@ -24,10 +20,9 @@ same-length-2 c = search needs
 
 returns : tie.Need-returns
 returns c =
-    let second = c .before .before .before .before in
-    let first = second .before .before .before .before .before .before .before in
-    let places = first .before .before .before in
-    rw (← places .before .byte-place .ensures, ← places .byte-place2 .ensures) (after (first .store-byte .ensures) (second .store-byte2 .ensures))
+    let d = c .before .before .before .before in
+    let places = d .before .before .before in
+    rw (← places .before .byte-place .ensures, ← places .byte-place2 .ensures) (d .store-halfword .ensures)
 
 pub store-pair-spec : {M : Type 1} → statement M
 store-pair-spec =
@@ -35,8 +30,7 @@ store-pair-spec =
     (tie.spec
     byte-place-requires
     byte-place-requires-2
-    store-byte-requires
-    store-byte-requires-2
+    store-halfword-requires
     same-length
     same-length-2
     returns)

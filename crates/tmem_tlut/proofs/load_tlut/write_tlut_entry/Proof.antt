@@ -1,4 +1,4 @@
--- `tmem_tlut::load_tlut::write_tlut_entry` carries out its eight stores, one after the other. Assumes nothing.
+-- `tmem_tlut::load_tlut::write_tlut_entry` carries out its eight stores, a halfword at a time. Assumes nothing.
 use mathlib.Core.Path.{refl}
 use Prim.Native.Nat.{_-_}
 use native.Mathlib.Omega.{arith}
@@ -9,22 +9,25 @@ use Rattle.tmem_tlut.proofs.load_tlut.write_tlut_entry.Tie as tie
 
 abbrev Inv-loop : tie.InvT-loop
 Inv-loop bank₀ written₀ src at source k₀ bank written k =
-    Turn 8 (entryTurn (at .0) source) src bank₀ written₀ k bank written
+    Turn 4 (entryTurn (at .0) source) src bank₀ written₀ k bank written
 
 abbrev μ-loop : tie.MeasureT-loop
-μ-loop bank₀ written₀ src at source k₀ bank written k = 8 - k
+μ-loop bank₀ written₀ src at source k₀ bank written k = 4 - k
 
 loop-holds : tie.Need-loop-holds Inv-loop μ-loop
 loop-holds c = begin (c .before .before .before .pre .0)
 
+mul-to : tie.Need-mul-to Inv-loop μ-loop
+mul-to c = omega arith
+
 add-to : tie.Need-add-to Inv-loop μ-loop
 add-to c = omega arith
 
-add-store-byte : tie.Need-add-store-byte Inv-loop μ-loop
-add-store-byte c = omega arith
+add-store-halfword : tie.Need-add-store-halfword Inv-loop μ-loop
+add-store-halfword c = omega arith
 
-store-byte-requires : tie.Need-store-byte-requires Inv-loop μ-loop
-store-byte-requires c κs = let d = c .before .before .before in (d .before .loop .inv .lent, omega arith)
+store-halfword-requires : tie.Need-store-halfword-requires Inv-loop μ-loop
+store-halfword-requires c κs = let d = c .before .before .before in (d .before .loop .inv .lent, (omega arith, omega arith))
 
 add-k : tie.Need-add-k Inv-loop μ-loop
 add-k c = omega arith
@@ -36,7 +39,7 @@ loop-again : tie.Need-loop-again Inv-loop μ-loop
 loop-again c =
     let d = c .before .before .before .before in
     let l = d .before .before .before .before in
-    next (l .before .loop .inv) (l .loop-test .taken) (d .store-byte .ensures)
+    next (l .before .loop .inv) (l .loop-test .taken) (d .store-halfword .ensures)
 
 same-length : tie.Need-same-length Inv-loop μ-loop
 same-length c = omega arith
@@ -56,9 +59,10 @@ write-tlut-entry-spec =
     Inv-loop
     μ-loop
     loop-holds
+    mul-to
     add-to
-    add-store-byte
-    store-byte-requires
+    add-store-halfword
+    store-halfword-requires
     add-k
     loop-less
     loop-again

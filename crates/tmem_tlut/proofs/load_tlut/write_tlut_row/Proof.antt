@@ -1,12 +1,12 @@
 -- `tmem_tlut::load_tlut::write_tlut_row` carries out the entries of a row, one after the other. Assumes nothing.
-use mathlib.Core.Path.{_∙_, sym}
-use Prim.Native.Nat.{_+_, _-_, _*_, _≤_}
+use mathlib.Core.Path.{_≡_, _∙_, sym}
+use Prim.Native.Nat.{_+_, _-_, _*_, _%_, _≤_}
 use native.Mathlib.Omega.{arith}
 use Rattle.rules.specs.Load.{entryStores, entryRow}
 use Rattle.tmem_store.specs.Part.{loadOf}
 use Rattle.tmem_store.proofs.Carry.{Counted, begin-count, next-count, finish-count, count-within}
 use Rattle.tmem_store.proofs.Indices.{product-within}
-use Rattle.tmem_tlut.proofs.Rows.{entry-length, entry-within, entry-at}
+use Rattle.tmem_tlut.proofs.Rows.{entry-length, entry-within, entry-even, entry-at}
 use Rattle.tmem_tlut.proofs.load_tlut.write_tlut_row.Statement.{statement}
 use Rattle.tmem_tlut.proofs.load_tlut.write_tlut_row.Tie as tie
 
@@ -50,7 +50,8 @@ write-tlut-entry-requires c κs =
     let d = e .before in
     let a = d .before .before .before .before .before .args in
     let room : e .entry-addr .result .0 + 8 ≤ 4096 = rw (e .entry-addr .ensures) (entry-within (a .tile .«tmem_addr» .0) (a .row) (a .tile .line .0) (d .before .loop .i)) in
-    (d .before .loop .inv .turn .lent, (room, omega (arith, source-within d)))
+    let even : e .entry-addr .result .0 % 2 ≡ 0 = rw (e .entry-addr .ensures) (entry-even (a .tile .«tmem_addr» .0) (a .row) (a .tile .line .0) (d .before .loop .i)) in
+    (d .before .loop .inv .turn .lent, ((room, even), omega (arith, source-within d)))
 
 add-stores : tie.Need-add-stores Inv-loop μ-loop
 add-stores c =

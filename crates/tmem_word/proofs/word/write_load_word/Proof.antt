@@ -3,7 +3,7 @@ use mathlib.Core.Path.{refl, sym}
 use Prim.Native.Nat.{_*_, _%_}
 use native.Mathlib.Omega.{arith}
 use Rattle.tmem_store.specs.Part.{loadOf}
-use Rattle.tmem_word.proofs.Places.{Found, first-within, odd-within, start-within, split-word, whole-word, word-length}
+use Rattle.tmem_word.proofs.Places.{Found, spots, start-within, split-word, whole-word, word-length}
 use borrow.Author.Needs.{needs}
 use Rattle.tmem_word.proofs.word.write_load_word.Statement.{statement}
 use Rattle.tmem_word.proofs.word.write_load_word.Tie as tie
@@ -28,12 +28,12 @@ first-halfword-requires : tie.Need-first-halfword-requires
 first-halfword-requires c κs = search needs
 
 mul-odd : tie.Need-mul-odd
-mul-odd c = omega (arith, odd-within (found c))
+mul-odd c = omega (arith, spots (found c) .odd-in)
 
 write-split-word-requires : tie.Need-write-split-word-requires
 write-split-word-requires c κs =
     let d = c .before .before .before .before .before .before in
-    (d .before .before .before .before .before .before .pre .0, (first-within (found d), (start-within (found d), omega arith)))
+    (d .before .before .before .before .before .before .pre .0, (spots (found d), (start-within (found d), omega arith)))
 
 same-length : tie.Need-same-length
 same-length c = search needs
@@ -50,7 +50,7 @@ returns c =
 write-whole-word-requires : tie.Need-write-whole-word-requires
 write-whole-word-requires c κs =
     let d = c .before .before .before .before .before .before in
-    (d .before .before .before .before .before .before .pre .0, (first-within (found d), (odd-within (found d), omega arith)))
+    (d .before .before .before .before .before .before .pre .0, (spots (found d), omega arith))
 
 same-length-3 : tie.Need-same-length-3
 same-length-3 c = search needs

@@ -1,75 +1,64 @@
--- `tmem_word::word::write_split_word` carries out a low and a high store at each of four addresses. Assumes nothing.
-use Prim.Native.Nat.{_+_, _-_, _/_, _<_, _≤_}
+-- `tmem_word::word::write_split_word` carries out four stores at each of two places. Assumes nothing.
+use mathlib.Core.Path.{_≡_}
+use Prim.Native.Nat.{_+_, _-_, _%_, _<_, _≤_}
 use native.Mathlib.Omega.{arith}
 use lib.ListN.{getD}
-use borrow.Author.Needs.{needs}
-use Rattle.rules.specs.Load.{splitStores}
+use Rattle.rules.specs.Load.{list4}
 use Rattle.tmem_store.specs.Part.{loadOf, placeOf}
-use Rattle.tmem_store.proofs.Carry.{Turn, begin, next, finish}
-use Rattle.tmem_store.proofs.Indices.{index-below}
-use Rattle.tmem_word.proofs.Places.{splitTurn, low-within, high-within}
+use Rattle.tmem_store.proofs.Carry.{Turn, begin, next, finish, after, still-lent}
+use Rattle.tmem_word.proofs.Places.{splitTurn, split-turn, split-is}
 use Rattle.tmem_word.proofs.word.write_split_word.Statement.{statement}
 use Rattle.tmem_word.proofs.word.write_split_word.Tie as tie
 
 abbrev Inv-loop : tie.InvT-loop
-Inv-loop bank₀ written₀ src first odd start source replicate indices low high i₀ bank written i =
-    Turn 4 (splitTurn low high indices start (placeOf source replicate)) src bank₀ written₀ i bank written
+Inv-loop bank₀ written₀ src first odd start source replicate step i₀ bank written i =
+    Turn 2 (splitTurn step (list4 first odd) start (placeOf source replicate)) src bank₀ written₀ i bank written
 
 abbrev μ-loop : tie.MeasureT-loop
-μ-loop bank₀ written₀ src first odd start source replicate indices low high i₀ bank written i = 4 - i
+μ-loop bank₀ written₀ src first odd start source replicate step i₀ bank written i = 2 - i
 
--- the address has room for the next one in its half
-address-low : (c : tie.In-loop Inv-loop μ-loop)
-    → getD (c .before .before .before .before .load-indices .result) (c .before .before .before .before .before .before .before .before .args .start + c .before .loop .i / 2) 0 < 2047
-address-low c = rw (c .before .before .before .before .load-indices .ensures) (index-below _ _ _)
-
-load-indices-requires : tie.Need-load-indices-requires Inv-loop μ-loop
-load-indices-requires c κs = search needs
-
-low-bytes-requires : tie.Need-low-bytes-requires Inv-loop μ-loop
-low-bytes-requires c κs = tt
-
-high-bytes-requires : tie.Need-high-bytes-requires Inv-loop μ-loop
-high-bytes-requires c κs = tt
+byte-step-requires : tie.Need-byte-step-requires Inv-loop μ-loop
+byte-step-requires c κs = tt
 
 loop-holds : tie.Need-loop-holds Inv-loop μ-loop
-loop-holds c = begin (c .before .before .before .before .before .before .pre .0)
+loop-holds c = begin (c .before .before .before .before .pre .0)
 
-add-address : tie.Need-add-address Inv-loop μ-loop
-add-address c = omega arith
+add-place-index : tie.Need-add-place-index Inv-loop μ-loop
+add-place-index c = omega arith
 
-mul-address : tie.Need-mul-address Inv-loop μ-loop
-mul-address c = omega arith
+place-index-requires : tie.Need-place-index-requires Inv-loop μ-loop
+place-index-requires c κs = (c .before .before .before .before .before .before .pre .1 .0, omega arith)
 
-array-read-address : tie.Need-array-read-address Inv-loop μ-loop
-array-read-address c = omega arith
+add-high : tie.Need-add-high Inv-loop μ-loop
+add-high c = omega arith
 
-add-address-2 : tie.Need-add-address-2 Inv-loop μ-loop
-add-address-2 c = omega (arith, address-low c)
+mul-k : tie.Need-mul-k Inv-loop μ-loop
+mul-k c = omega arith
 
-add-upper : tie.Need-add-upper Inv-loop μ-loop
-add-upper c = omega (arith, address-low c)
-
-mul-store-pair : tie.Need-mul-store-pair Inv-loop μ-loop
-mul-store-pair c = omega arith
-
-array-read-store-pair : tie.Need-array-read-store-pair Inv-loop μ-loop
-array-read-store-pair c = omega arith
-
-mul-store-pair-2 : tie.Need-mul-store-pair-2 Inv-loop μ-loop
-mul-store-pair-2 c = omega arith
-
-array-read-store-pair-2 : tie.Need-array-read-store-pair-2 Inv-loop μ-loop
-array-read-store-pair-2 c = omega arith
+add-store-pair : tie.Need-add-store-pair Inv-loop μ-loop
+add-store-pair c = omega arith
 
 store-pair-requires : tie.Need-store-pair-requires Inv-loop μ-loop
 store-pair-requires c κs =
     let d = c .before .before in
-    let i = d .before .loop .i in
-    let t = loadOf (d .before .before .before .before .before .before .before .before .args .tile) in
-    let low : getD (d .before .before .before .low-bytes .result) i 0 ≤ 7 = rw (d .before .before .before .low-bytes .ensures) (low-within t i (omega arith)) in
-    let high : getD (d .before .before .high-bytes .result) i 0 ≤ 7 = rw (d .before .before .high-bytes .ensures) (high-within t i (omega arith)) in
-    (d .before .loop .inv .lent, (omega (arith, address-low d), (omega (arith, address-low d), (omega arith, omega arith))))
+    (d .before .before .loop .inv .lent, ((omega arith, d .place-index .ensures .1 .1), (omega arith, (omega arith, omega arith))))
+
+add-store-pair-2 : tie.Need-add-store-pair-2 Inv-loop μ-loop
+add-store-pair-2 c = omega arith
+
+sub-store-pair : tie.Need-sub-store-pair Inv-loop μ-loop
+sub-store-pair c = omega arith
+
+add-store-pair-3 : tie.Need-add-store-pair-3 Inv-loop μ-loop
+add-store-pair-3 c = omega arith
+
+store-pair-requires-2 : tie.Need-store-pair-requires-2 Inv-loop μ-loop
+store-pair-requires-2 c κs =
+    let s = c .before .before .before .before .before .before in
+    let p = s .before .before .before in
+    let found = p .place-index .ensures .1 in
+    let turn = p .before .loop-test .taken in
+    (still-lent (p .before .before .loop .inv .lent) (s .store-pair .ensures), ((omega (arith, found .0), omega (arith, found .1)), (p .before .before .before .before .before .before .before .pre .1 .1 .1, (omega (arith, turn), omega (arith, turn)))))
 
 add-i : tie.Need-add-i Inv-loop μ-loop
 add-i c = omega arith
@@ -80,7 +69,14 @@ loop-less c = omega arith
 loop-again : tie.Need-loop-again Inv-loop μ-loop
 loop-again c =
     let d = c .before .before .before .before in
-    next (d .before .before .before .before .loop .inv) (omega arith) (d .store-pair .ensures)
+    let s = d .before .before .before .before .before .before .before in
+    let p = s .before .before .before in
+    let s₀ = p .before .before .before in
+    let a = s₀ .before .before .before .before .args in
+    let found = p .place-index .ensures in
+    next (p .before .before .loop .inv) (omega arith)
+    (split-turn (p .place-index .result) (s₀ .byte-step .result) (list4 (a .first) (a .odd)) (a .start) (placeOf (a .source) (a .replicate)) (p .before .before .loop .i) (found .0) (found .1 .1)
+    (after (s .store-pair .ensures) (d .store-pair2 .ensures)))
 
 same-length : tie.Need-same-length Inv-loop μ-loop
 same-length c = omega arith
@@ -89,10 +85,11 @@ same-length-2 : tie.Need-same-length-2 Inv-loop μ-loop
 same-length-2 c = omega arith
 
 returns : tie.Need-returns Inv-loop μ-loop
-unfolding splitStores
 returns c =
-    let d = c .before .before in
-    rw (← d .high-bytes .ensures, ← d .before .low-bytes .ensures, ← d .before .before .load-indices .ensures) (finish (c .before .loop .inv) (omega arith))
+    let s = c .before .before in
+    let a = s .before .before .before .before .args in
+    rw (← split-is (loadOf (a .tile)) (list4 (a .first) (a .odd)) (a .start) (placeOf (a .source) (a .replicate)), ← s .byte-step .ensures .0)
+    (finish (c .before .loop .inv) (omega arith))
 
 pub write-split-word-spec : {M : Type 1} → statement M
 write-split-word-spec =
@@ -100,20 +97,18 @@ write-split-word-spec =
     (tie.spec
     Inv-loop
     μ-loop
-    load-indices-requires
-    low-bytes-requires
-    high-bytes-requires
+    byte-step-requires
     loop-holds
-    add-address
-    mul-address
-    array-read-address
-    add-address-2
-    add-upper
-    mul-store-pair
-    array-read-store-pair
-    mul-store-pair-2
-    array-read-store-pair-2
+    add-place-index
+    place-index-requires
+    add-high
+    mul-k
+    add-store-pair
     store-pair-requires
+    add-store-pair-2
+    sub-store-pair
+    add-store-pair-3
+    store-pair-requires-2
     add-i
     loop-less
     loop-again
