@@ -1,10 +1,8 @@
 -- `tmem_bank::map::set_mark` marks inside the map; past its end the rule's store changes nothing. Assumes nothing.
-use Prim.Native.Nat.{ℕ, _*_, _%_, _^_}
-use native.Mathlib.Omega.{arith}
 use lib.Seq.{set-out}
 use Rattle.rules.specs.Base.{marked}
-use Rattle.rules.proofs.Computed.{agree-below}
 use borrow.Author.Needs.{needs}
+use Rattle.tmem_bank.proofs.Halfwords.{byte-marked}
 use Rattle.tmem_bank.proofs.map.set_mark.Statement.{statement}
 use Rattle.tmem_bank.proofs.map.set_mark.Tie as tie
 
@@ -24,10 +22,7 @@ same-length : tie.Need-same-length
 same-length c = search needs
 
 returns : tie.Need-returns
-unfolding marked
-returns c =
-    let k : ℕ = c .before .before .args .at % 8 in
-    rw (agree-below 8 (λ k. 1 * 2 ^ k % 256) (λ k. 2 ^ k) tt k (omega arith))
+returns c = let a = c .before .before .args in byte-marked (a .map .now) (a .at)
 
 returns-2 : tie.Need-returns-2
 unfolding marked
