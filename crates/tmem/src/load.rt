@@ -15,7 +15,8 @@ use tmem_rows::load_tile::write_tile_rows;
 use tmem_store::place::load_fields;
 use tmem_tlut::load_tlut::write_tlut;
 
-// The first refusal of a load, by the lengths of what it is lent, and whether its own numbers are `outside` their ranges; 0 is none.
+// The first refusal of a load, by the lengths of what it is lent, its tile, and whether its own numbers are `outside` their ranges;
+// 0 is none.
 fn load_refusal(
     bank_len: usize,
     map_len: usize,

@@ -80,7 +80,8 @@ pub fn first_halfword(row: WordAddr, halfword: usize) -> usize
     (4 * row.0 as usize + halfword) & 0x7fd
 }
 
-// Place k of the list of four: where the word's halfword k goes. Of a word that starts one halfword late, one place is the next word's.
+// The byte address at place k of the list of four: halfword k of the first one's word. Where that starts a halfword late, one
+// place is left over, and is the next word's.
 pub fn place_index(first: usize, odd: usize, k: usize) -> usize
     requires { ⌜ Spots first odd ⌝ }
     requires { ⌜ k < 4 ⌝ }

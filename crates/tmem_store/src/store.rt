@@ -1,4 +1,4 @@
-// The stores of a halfword. Every store of a load is one of such two, and they mark their addresses.
+// The two stores of a halfword, which mark their addresses. Every store of a load is one of such two.
 ghost use mathlib.Core.Path.{_≡_};
 ghost use Prim.Native.Nat.{_%_, _<_, _^_};
 ghost use lib.ListN.{getD};
