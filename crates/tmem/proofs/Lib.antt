@@ -1,8 +1,2 @@
--- Laws of the parts of a load.
-pub mod Again
-pub mod Carry
-pub mod Indices
-pub mod Places
-pub mod Rows
-pub mod Runs
+-- What a load that is not refused may count on.
 pub mod Within

@@ -1,20 +1,33 @@
 -- `load_cases::source::count_up` stores within the slice. Assumes nothing.
 use mathlib.Core.Path.{_≡_}
-use Prim.Native.Nat.{_-_, _≤_}
+use Prim.Native.Nat.{ℕ, _-_, _*_, _%_, _≤_}
+use native.Mathlib.Nat.{mul-le-mul}
 use native.Mathlib.Omega.{arith}
 use lib.ListN.{length, length-set}
 use Rattle.load_cases.proofs.source.count_up.Statement.{statement}
 use Rattle.load_cases.proofs.source.count_up.Tie as tie
 
 abbrev Inv-loop : tie.InvT-loop
-Inv-loop bytes₀ i₀ i-end bytes i =
+Inv-loop bytes₀ start step first more i₀ i-end bytes i =
     (i ≤ length bytes₀) × (length bytes ≡ length bytes₀)
 
 abbrev μ-loop : tie.MeasureT-loop
-μ-loop bytes₀ i₀ i-end bytes i = length bytes₀ - i
+μ-loop bytes₀ start step first more i₀ i-end bytes i = length bytes₀ - i
+
+product : (i n : ℕ) → i % 256 * (n % 256) ≤ 255 * 255
+product i n =
+    let p : i % 256 ≤ 255 = omega arith in
+    let q : n % 256 ≤ 255 = omega arith in
+    mul-le-mul p q
 
 loop-holds : tie.Need-loop-holds Inv-loop μ-loop
 loop-holds c = omega arith
+
+mul-bytes : tie.Need-mul-bytes Inv-loop μ-loop
+mul-bytes c = omega (arith, product (c .before .loop .i) (c .before .before .args .step))
+
+add-bytes : tie.Need-add-bytes Inv-loop μ-loop
+add-bytes c = omega (arith, product (c .before .loop .i) (c .before .before .args .step))
 
 cast-bytes : tie.Need-cast-bytes Inv-loop μ-loop
 cast-bytes c = omega arith
@@ -44,6 +57,8 @@ count-up-spec =
     Inv-loop
     μ-loop
     loop-holds
+    mul-bytes
+    add-bytes
     cast-bytes
     slice-write-bytes
     add-i

@@ -1,5 +1,6 @@
 -- `tmem::load::write_block_for_tile` refuses, or carries the block out. Assumes nothing.
-use mathlib.Core.Path.{_≡_, sym, _∙_}
+use mathlib.Core.Path.{_≡_, refl, sym, _∙_}
+use native.Mathlib.Omega.{arith}
 use borrow.Author.Needs.{needs}
 use Rattle.rules.specs.Refusal.{first}
 use Rattle.rules.specs.Calls.{loadTests, blockOutside, blockCall}
@@ -9,46 +10,44 @@ use Rattle.tmem.proofs.Within.{Within, within, block-in, load-refused, 
 use Rattle.tmem.proofs.load.write_block_for_tile.Statement.{statement}
 use Rattle.tmem.proofs.load.write_block_for_tile.Tie as tie
 
--- what is known once there was no refusal
-zero : (c : tie.Else1) → let a = c .before .before .before .before .before .before .before .args in
-    first (loadTests (a .bank .now) (a .written .now) (a .src .now) (tileOf (a .tile)) (a .image-siz) (blockOutside (a .dxt) (a .word-count))) ≡ 0
-zero c = sym (c .before .load-refusal .ensures) ∙ c .if1 .left
-
-allowed : (c : tie.Else1) → let a = c .before .before .before .before .before .before .before .args in
-    Within (a .bank .now) (a .written .now) (tileOf (a .tile)) (a .image-siz) (blockOutside (a .dxt) (a .word-count))
-allowed c =
-    let a = c .before .before .before .before .before .before .before .args in
-    within (a .bank .now) (a .written .now) (a .src .now) (tileOf (a .tile)) (a .image-siz) (blockOutside (a .dxt) (a .word-count)) (zero c)
-
 load-refusal-requires : tie.Need-load-refusal-requires
 load-refusal-requires c κs = search needs
-
-same-length : tie.Need-same-length
-same-length c = search needs
-
-same-length-2 : tie.Need-same-length-2
-same-length-2 c = search needs
 
 returns : tie.Need-returns
 unfolding blockCall
 returns c =
-    let a = c .before .before .before .before .before .before .before .args in
-    load-refused _ (blockStores (loadTile (tileOf (a .tile))) (a .image-siz) (a .dxt) (a .word-count)) _ _ (a .src .now) _ (c .before .load-refusal .ensures) (c .if1 .taken)
+    let a = c .before .before .before .before .before .args in
+    load-refused _ (blockStores (loadTile (tileOf (a .tile))) (a .image-siz) (a .dxt) (a .word-count)) _ _ (a .src .now) _ (c .before .load-refusal .ensures (a .bank .now) (a .written .now) (a .src .now) refl refl refl) (c .if1 .taken)
+
+-- what is known once there was no refusal
+zero : (c : tie.Else1) → let a = c .before .before .before .before .before .args in
+    first (loadTests (a .bank .now) (a .written .now) (a .src .now) (tileOf (a .tile)) (a .image-siz) (blockOutside (a .dxt) (a .word-count))) ≡ 0
+zero c =
+    let a = c .before .before .before .before .before .args in
+    sym (c .before .load-refusal .ensures (a .bank .now) (a .written .now) (a .src .now) refl refl refl) ∙ c .if1 .left
+
+allowed : (c : tie.Else1) → let a = c .before .before .before .before .before .args in
+    Within (a .bank .now) (a .written .now) (tileOf (a .tile)) (a .image-siz) (blockOutside (a .dxt) (a .word-count))
+allowed c =
+    let a = c .before .before .before .before .before .args in
+    within (a .bank .now) (a .written .now) (a .src .now) (tileOf (a .tile)) (a .image-siz) (blockOutside (a .dxt) (a .word-count)) (zero c)
 
 load-fields-requires : tie.Need-load-fields-requires
 load-fields-requires c κs = search needs
 
 write-block-words-requires : tie.Need-write-block-words-requires
 write-block-words-requires c κs =
-    let w = allowed (c .before .before .before) in
-    let b = block-in _ _ (w .inside) in
-    (w .lent, (rw (c .load-fields .ensures) (w .ranged), (w .image-in, (b .dxt-in, b .words-in))))
+    let s = c .before .before .before in
+    let a = s .before .before .before .before .before .args in
+    let w = allowed s in
+    let b = block-in (a .dxt) (a .word-count) (w .inside) in
+    (w .lent, (rw (c .load-fields .ensures) (w .ranged), (w .image-in, (omega (arith, b .dxt-in), omega (arith, b .words-in)))))
 
-same-length-3 : tie.Need-same-length-3
-same-length-3 c = search needs
+same-length : tie.Need-same-length
+same-length c = search needs
 
-same-length-4 : tie.Need-same-length-4
-same-length-4 c = search needs
+same-length-2 : tie.Need-same-length-2
+same-length-2 c = search needs
 
 returns-2 : tie.Need-returns-2
 unfolding blockCall
@@ -62,11 +61,9 @@ write-block-for-tile-spec =
     tie.close
     (tie.spec
     load-refusal-requires
-    same-length
-    same-length-2
     returns
     load-fields-requires
     write-block-words-requires
-    same-length-3
-    same-length-4
+    same-length
+    same-length-2
     returns-2)

@@ -1,5 +1,6 @@
 -- `tmem::load::write_tile_for_tile` refuses, or carries the rows out. Assumes nothing.
-use mathlib.Core.Path.{_≡_, sym, _∙_}
+use mathlib.Core.Path.{_≡_, refl, sym, _∙_}
+use native.Mathlib.Omega.{arith}
 use borrow.Author.Needs.{needs}
 use Rattle.rules.specs.Refusal.{first}
 use Rattle.rules.specs.Calls.{loadTests, tileLoadOutside, tileCall}
@@ -9,46 +10,44 @@ use Rattle.tmem.proofs.Within.{Within, within, tile-in, load-refused, l
 use Rattle.tmem.proofs.load.write_tile_for_tile.Statement.{statement}
 use Rattle.tmem.proofs.load.write_tile_for_tile.Tie as tie
 
--- what is known once there was no refusal
-zero : (c : tie.Else1) → let a = c .before .before .before .before .before .before .before .args in
-    first (loadTests (a .bank .now) (a .written .now) (a .src .now) (tileOf (a .tile)) (a .image-siz) (tileLoadOutside (a .row-count) (a .words-per-row) (a .stride))) ≡ 0
-zero c = sym (c .before .load-refusal .ensures) ∙ c .if1 .left
-
-allowed : (c : tie.Else1) → let a = c .before .before .before .before .before .before .before .args in
-    Within (a .bank .now) (a .written .now) (tileOf (a .tile)) (a .image-siz) (tileLoadOutside (a .row-count) (a .words-per-row) (a .stride))
-allowed c =
-    let a = c .before .before .before .before .before .before .before .args in
-    within (a .bank .now) (a .written .now) (a .src .now) (tileOf (a .tile)) (a .image-siz) (tileLoadOutside (a .row-count) (a .words-per-row) (a .stride)) (zero c)
-
 load-refusal-requires : tie.Need-load-refusal-requires
 load-refusal-requires c κs = search needs
-
-same-length : tie.Need-same-length
-same-length c = search needs
-
-same-length-2 : tie.Need-same-length-2
-same-length-2 c = search needs
 
 returns : tie.Need-returns
 unfolding tileCall
 returns c =
-    let a = c .before .before .before .before .before .before .before .args in
-    load-refused _ (tileStores (loadTile (tileOf (a .tile))) (a .image-siz) (a .row-count) (a .words-per-row) (a .stride)) _ _ (a .src .now) _ (c .before .load-refusal .ensures) (c .if1 .taken)
+    let a = c .before .before .before .before .before .args in
+    load-refused _ (tileStores (loadTile (tileOf (a .tile))) (a .image-siz) (a .row-count) (a .words-per-row) (a .stride)) _ _ (a .src .now) _ (c .before .load-refusal .ensures (a .bank .now) (a .written .now) (a .src .now) refl refl refl) (c .if1 .taken)
+
+-- what is known once there was no refusal
+zero : (c : tie.Else1) → let a = c .before .before .before .before .before .args in
+    first (loadTests (a .bank .now) (a .written .now) (a .src .now) (tileOf (a .tile)) (a .image-siz) (tileLoadOutside (a .row-count) (a .words-per-row) (a .stride))) ≡ 0
+zero c =
+    let a = c .before .before .before .before .before .args in
+    sym (c .before .load-refusal .ensures (a .bank .now) (a .written .now) (a .src .now) refl refl refl) ∙ c .if1 .left
+
+allowed : (c : tie.Else1) → let a = c .before .before .before .before .before .args in
+    Within (a .bank .now) (a .written .now) (tileOf (a .tile)) (a .image-siz) (tileLoadOutside (a .row-count) (a .words-per-row) (a .stride))
+allowed c =
+    let a = c .before .before .before .before .before .args in
+    within (a .bank .now) (a .written .now) (a .src .now) (tileOf (a .tile)) (a .image-siz) (tileLoadOutside (a .row-count) (a .words-per-row) (a .stride)) (zero c)
 
 load-fields-requires : tie.Need-load-fields-requires
 load-fields-requires c κs = search needs
 
 write-tile-rows-requires : tie.Need-write-tile-rows-requires
 write-tile-rows-requires c κs =
-    let w = allowed (c .before .before .before) in
-    let b = tile-in _ _ _ (w .inside) in
-    (w .lent, (rw (c .load-fields .ensures) (w .ranged), (w .image-in, (b .rows-in, (b .words-in, b .stride-in)))))
+    let s = c .before .before .before in
+    let a = s .before .before .before .before .before .args in
+    let w = allowed s in
+    let b = tile-in (a .row-count) (a .words-per-row) (a .stride) (w .inside) in
+    (w .lent, (rw (c .load-fields .ensures) (w .ranged), (w .image-in, (omega (arith, b .rows-in), (omega (arith, b .words-in), omega (arith, b .stride-in))))))
 
-same-length-3 : tie.Need-same-length-3
-same-length-3 c = search needs
+same-length : tie.Need-same-length
+same-length c = search needs
 
-same-length-4 : tie.Need-same-length-4
-same-length-4 c = search needs
+same-length-2 : tie.Need-same-length-2
+same-length-2 c = search needs
 
 returns-2 : tie.Need-returns-2
 unfolding tileCall
@@ -62,11 +61,9 @@ write-tile-for-tile-spec =
     tie.close
     (tie.spec
     load-refusal-requires
-    same-length
-    same-length-2
     returns
     load-fields-requires
     write-tile-rows-requires
-    same-length-3
-    same-length-4
+    same-length
+    same-length-2
     returns-2)

@@ -1,5 +1,6 @@
 -- `tmem::load::write_tlut_for_tile` refuses, or carries the table out. Assumes nothing.
-use mathlib.Core.Path.{_≡_, sym, _∙_}
+use mathlib.Core.Path.{_≡_, refl, sym, _∙_}
+use native.Mathlib.Omega.{arith}
 use borrow.Author.Needs.{needs}
 use Rattle.rules.specs.Refusal.{first}
 use Rattle.rules.specs.Calls.{loadTests, tlutOutside, tlutCall}
@@ -9,46 +10,44 @@ use Rattle.tmem.proofs.Within.{Within, within, tlut-in, load-refused, l
 use Rattle.tmem.proofs.load.write_tlut_for_tile.Statement.{statement}
 use Rattle.tmem.proofs.load.write_tlut_for_tile.Tie as tie
 
--- what is known once there was no refusal
-zero : (c : tie.Else1) → let a = c .before .before .before .before .before .before .before .args in
-    first (loadTests (a .bank .now) (a .written .now) (a .src .now) (tileOf (a .tile)) (a .image-siz) (tlutOutside (a .count) (a .rows) (a .stride))) ≡ 0
-zero c = sym (c .before .load-refusal .ensures) ∙ c .if1 .left
-
-allowed : (c : tie.Else1) → let a = c .before .before .before .before .before .before .before .args in
-    Within (a .bank .now) (a .written .now) (tileOf (a .tile)) (a .image-siz) (tlutOutside (a .count) (a .rows) (a .stride))
-allowed c =
-    let a = c .before .before .before .before .before .before .before .args in
-    within (a .bank .now) (a .written .now) (a .src .now) (tileOf (a .tile)) (a .image-siz) (tlutOutside (a .count) (a .rows) (a .stride)) (zero c)
-
 load-refusal-requires : tie.Need-load-refusal-requires
 load-refusal-requires c κs = search needs
-
-same-length : tie.Need-same-length
-same-length c = search needs
-
-same-length-2 : tie.Need-same-length-2
-same-length-2 c = search needs
 
 returns : tie.Need-returns
 unfolding tlutCall
 returns c =
-    let a = c .before .before .before .before .before .before .before .args in
-    load-refused _ (tlutStores (loadTile (tileOf (a .tile))) (a .image-siz) (a .count) (a .rows) (a .stride)) _ _ (a .src .now) _ (c .before .load-refusal .ensures) (c .if1 .taken)
+    let a = c .before .before .before .before .before .args in
+    load-refused _ (tlutStores (loadTile (tileOf (a .tile))) (a .image-siz) (a .count) (a .rows) (a .stride)) _ _ (a .src .now) _ (c .before .load-refusal .ensures (a .bank .now) (a .written .now) (a .src .now) refl refl refl) (c .if1 .taken)
+
+-- what is known once there was no refusal
+zero : (c : tie.Else1) → let a = c .before .before .before .before .before .args in
+    first (loadTests (a .bank .now) (a .written .now) (a .src .now) (tileOf (a .tile)) (a .image-siz) (tlutOutside (a .count) (a .rows) (a .stride))) ≡ 0
+zero c =
+    let a = c .before .before .before .before .before .args in
+    sym (c .before .load-refusal .ensures (a .bank .now) (a .written .now) (a .src .now) refl refl refl) ∙ c .if1 .left
+
+allowed : (c : tie.Else1) → let a = c .before .before .before .before .before .args in
+    Within (a .bank .now) (a .written .now) (tileOf (a .tile)) (a .image-siz) (tlutOutside (a .count) (a .rows) (a .stride))
+allowed c =
+    let a = c .before .before .before .before .before .args in
+    within (a .bank .now) (a .written .now) (a .src .now) (tileOf (a .tile)) (a .image-siz) (tlutOutside (a .count) (a .rows) (a .stride)) (zero c)
 
 load-fields-requires : tie.Need-load-fields-requires
 load-fields-requires c κs = search needs
 
 write-tlut-requires : tie.Need-write-tlut-requires
 write-tlut-requires c κs =
-    let w = allowed (c .before .before .before) in
-    let b = tlut-in _ _ _ (w .inside) in
-    (w .lent, (rw (c .load-fields .ensures) (w .ranged), (w .image-in, (b .count-in, (b .rows-in, b .stride-in)))))
+    let s = c .before .before .before in
+    let a = s .before .before .before .before .before .args in
+    let w = allowed s in
+    let b = tlut-in (a .count) (a .rows) (a .stride) (w .inside) in
+    (w .lent, (rw (c .load-fields .ensures) (w .ranged), (w .image-in, (omega (arith, b .count-in), (omega (arith, b .rows-in), omega (arith, b .stride-in))))))
 
-same-length-3 : tie.Need-same-length-3
-same-length-3 c = search needs
+same-length : tie.Need-same-length
+same-length c = search needs
 
-same-length-4 : tie.Need-same-length-4
-same-length-4 c = search needs
+same-length-2 : tie.Need-same-length-2
+same-length-2 c = search needs
 
 returns-2 : tie.Need-returns-2
 unfolding tlutCall
@@ -62,11 +61,9 @@ write-tlut-for-tile-spec =
     tie.close
     (tie.spec
     load-refusal-requires
-    same-length
-    same-length-2
     returns
     load-fields-requires
     write-tlut-requires
-    same-length-3
-    same-length-4
+    same-length
+    same-length-2
     returns-2)

@@ -1,0 +1,3 @@
+-- Laws of stores and of their places.
+pub mod Carry
+pub mod Indices

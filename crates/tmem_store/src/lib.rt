@@ -1,0 +1,3 @@
+// Parts of the loads, for them alone: where a word goes, and a store with its mark.
+pub mod place;
+pub mod store;

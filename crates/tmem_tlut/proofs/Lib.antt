@@ -1,0 +1,3 @@
+-- Laws of a lookup table's load.
+pub mod Rows
+pub mod Steps

@@ -1,0 +1,2 @@
+-- Laws of a word load.
+pub mod Places

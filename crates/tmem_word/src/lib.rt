@@ -1,0 +1,2 @@
+// A part of the loads, for them alone: the stores of a word.
+pub mod word;
