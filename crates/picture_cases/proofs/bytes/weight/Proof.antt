@@ -1,9 +1,9 @@
--- `picture_cases::report::weight` goes through the buffer from its front on. Assumes nothing.
+-- `picture_cases::bytes::weight` goes through the buffer from its front on. Assumes nothing.
 use Prim.Native.Nat.{_≤_, _-_}
 use borrow.Author.Needs.{needs}
 use lib.ListN.{length}
-use Rattle.picture_cases.proofs.report.weight.Statement.{statement}
-use Rattle.picture_cases.proofs.report.weight.Tie as tie
+use Rattle.picture_cases.proofs.bytes.weight.Statement.{statement}
+use Rattle.picture_cases.proofs.bytes.weight.Tie as tie
 
 abbrev Inv-loop : tie.InvT-loop
 Inv-loop start b n₀ i₀ n i = (i ≤ length b)

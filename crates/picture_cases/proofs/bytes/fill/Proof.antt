@@ -1,11 +1,11 @@
--- `picture_cases::report::fill` goes through the buffer from its front on. Assumes nothing.
+-- `picture_cases::bytes::fill` goes through the buffer from its front on. Assumes nothing.
 use mathlib.Core.Path.{_≡_}
 use Prim.Native.Nat.{_≤_, _<_, _-_}
 use native.Mathlib.Omega.{arith}
 use borrow.Author.Needs.{needs}
 use lib.ListN.{length, length-set}
-use Rattle.picture_cases.proofs.report.fill.Statement.{statement}
-use Rattle.picture_cases.proofs.report.fill.Tie as tie
+use Rattle.picture_cases.proofs.bytes.fill.Statement.{statement}
+use Rattle.picture_cases.proofs.bytes.fill.Tie as tie
 
 abbrev Inv-loop : tie.InvT-loop
 Inv-loop b₀ v₀ i₀ b v i = (i ≤ length b) × (length b ≡ length b₀) × (v < 512)
