@@ -40,7 +40,7 @@ pub(crate) fn numbers(line: &[u8; 112]) -> [u32; 13]
     n
 }
 
-fn tile(n: &[u32; 13]) -> TileDescriptor {
+fn tile(n: [u32; 13]) -> TileDescriptor {
     TileDescriptor {
         fmt: n[1],
         siz: n[2],
@@ -56,7 +56,7 @@ fn tile(n: &[u32; 13]) -> TileDescriptor {
     }
 }
 
-fn call(bank: &[u8], n: &[u32; 13], lane: u32, out: &mut [u8], seen: &mut [u8]) -> Answer {
+fn call(bank: &[u8], n: [u32; 13], lane: u32, out: &mut [u8], seen: &mut [u8]) -> Answer {
     let t = tile(n);
     let mode = n[8];
     match n[0] {
@@ -64,20 +64,6 @@ fn call(bank: &[u8], n: &[u32; 13], lane: u32, out: &mut [u8], seen: &mut [u8]) 
         1 => sample_tile_lane_observed(bank, t, mode, lane, out, seen),
         _ => sampling_lookup_lane(bank, t, mode, lane, out),
     }
-}
-
-// The lanes one after the other into the same buffers: their weights one on top of the other, and the last one's answer.
-fn lanes(bank: &[u8], n: &[u32; 13], out: &mut [u8], seen: &mut [u8]) -> Told {
-    let mut answer = Answer {
-        refusal: 0,
-        count: 0,
-    };
-    let mut weight = 1;
-    for lane in 0..n[9] % 5 {
-        answer = call(bank, n, lane, out, seen);
-        weight = bytes::weight(bytes::weight(weight, out), seen);
-    }
-    Told { answer, weight }
 }
 
 // A length that the case asks for, as far as there is room.
@@ -88,15 +74,29 @@ fn part(n: u32, room: usize) -> usize
     if asked < room { asked } else { room }
 }
 
-fn in_buffers(bank: &[u8], n: &[u32; 13]) -> Told {
+// One lane into fresh buffers: their weight comes on top of the weight before.
+fn in_buffers(bank: &[u8], n: [u32; 13], lane: u32, before: u32) -> Told {
     let mut out = [0u8; 65536];
     let mut seen = [0u8; 120];
+    bytes::fill(&mut out);
+    bytes::fill(&mut seen);
     let a = part(n[10], bank.len());
     let b = part(n[11], 65536);
     let c = part(n[12], 120);
-    bytes::fill(&mut out);
-    bytes::fill(&mut seen);
-    lanes(&bank[..a], n, &mut out[..b], &mut seen[..c])
+    let picture = &mut out[..b];
+    let trail = &mut seen[..c];
+    let answer = call(&bank[..a], n, lane, picture, trail);
+    let weight = bytes::weight(bytes::weight(before, picture), trail);
+    Told { answer, weight }
+}
+
+// The lanes one after the other: their weights one on top of the other, and the last one's answer.
+fn lanes(bank: &[u8], n: [u32; 13]) -> Told {
+    let mut t = in_buffers(bank, n, 0, 1);
+    for lane in 1..n[9] % 5 {
+        t = in_buffers(bank, n, lane, t.weight);
+    }
+    t
 }
 
 // The name's length.
@@ -119,8 +119,8 @@ fn print(n: u32) {
 }
 
 // The case's line of output.
-pub(crate) fn run(bank: &[u8], n: &[u32; 13], name: &[u8]) {
-    let t = in_buffers(bank, n);
+pub(crate) fn run(bank: &[u8], n: [u32; 13], name: &[u8]) {
+    let t = lanes(bank, n);
     io::write_all(STDOUT_FILENO, name);
     print(t.answer.refusal);
     print(t.answer.count);

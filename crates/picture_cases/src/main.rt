@@ -10,7 +10,7 @@ fn next_case(bank: &[u8]) {
     let mut line = [0u8; 112];
     if io::read_full(STDIN_FILENO, &mut line) == 112 {
         let end = case::name(&line);
-        case::run(bank, &case::numbers(&line), &line[..end]);
+        case::run(bank, case::numbers(&line), &line[..end]);
     }
 }
 
