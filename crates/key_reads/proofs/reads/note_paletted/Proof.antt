@@ -1,12 +1,12 @@
--- `key::reads::note_paletted` notes the index byte and then the entry's two. Assumes nothing.
+-- `key_reads::reads::note_paletted` notes the index byte and then the entry's two. Assumes nothing.
 use native.Mathlib.Omega.{arith}
 use lib.ListN.{length-set}
 use borrow.Author.Needs.{needs}
 use Rattle.rules.specs.Reading.{trail}
 use Rattle.rules.specs.Picture.{paletted}
 use Rattle.rules.specs.Key.{noted}
-use Rattle.key.proofs.reads.note_paletted.Statement.{statement}
-use Rattle.key.proofs.reads.note_paletted.Tie as tie
+use Rattle.key_reads.proofs.reads.note_paletted.Statement.{statement}
+use Rattle.key_reads.proofs.reads.note_paletted.Tie as tie
 
 bytes-requires : tie.Need-bytes-requires
 bytes-requires c κs = search needs

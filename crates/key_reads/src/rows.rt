@@ -45,7 +45,7 @@ fn rows_read(height: u32) -> u32
 }
 
 // A plain picture.
-pub(crate) fn note_plain(bank: &[u8], seen: &mut [u8], tile: TileDescriptor, tlut: u32, lane: u32)
+pub fn note_plain(bank: &[u8], seen: &mut [u8], tile: TileDescriptor, tlut: u32, lane: u32)
     requires { ⌜ (length (now bank) ≡ 4096) × (length (now seen) ≡ 4096) ⌝ }
     requires { ⌜ InRange (tileOf tile) ⌝ }
     requires { ⌜ lane ≤ 3 ⌝ }
@@ -81,7 +81,7 @@ fn note_lookup_row(
 }
 
 // A lookup.
-pub(crate) fn note_lookup(bank: &[u8], seen: &mut [u8], tile: TileDescriptor, tlut: u32, lane: u32)
+pub fn note_lookup(bank: &[u8], seen: &mut [u8], tile: TileDescriptor, tlut: u32, lane: u32)
     requires { ⌜ (length (now bank) ≡ 4096) × (length (now seen) ≡ 4096) ⌝ }
     requires { ⌜ InRange (tileOf tile) ⌝ }
     requires { ⌜ lane ≤ 3 ⌝ }

@@ -1,8 +1,8 @@
 use mathlib.Core.Path.{refl}
 use borrow.Author.Needs.{needs}
 use Rattle.rules.specs.Key.{noted}
-use Rattle.key.proofs.reads.note_two.Statement.{statement}
-use Rattle.key.proofs.reads.note_two.Tie as tie
+use Rattle.key_reads.proofs.reads.note_two.Statement.{statement}
+use Rattle.key_reads.proofs.reads.note_two.Tie as tie
 
 slice-write-seen : tie.Need-slice-write-seen
 slice-write-seen c = search needs

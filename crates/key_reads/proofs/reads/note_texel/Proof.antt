@@ -1,12 +1,12 @@
--- `key::reads::note_texel` notes by the mode: through the lookup table, or by the pair. Assumes nothing.
+-- `key_reads::reads::note_texel` notes by the mode: through the lookup table, or by the pair. Assumes nothing.
 use mathlib.Core.Path.{_≡_}
 use native.Mathlib.Omega.{arith}
 use borrow.Author.Tests.{le-leb, lt-leb}
 use borrow.Author.Needs.{needs}
 use Rattle.rules.specs.Picture.{texel}
 use Rattle.rules.proofs.Formats.{accepted-direct, texel-direct}
-use Rattle.key.proofs.reads.note_texel.Statement.{statement}
-use Rattle.key.proofs.reads.note_texel.Tie as tie
+use Rattle.key_reads.proofs.reads.note_texel.Statement.{statement}
+use Rattle.key_reads.proofs.reads.note_texel.Tie as tie
 
 note-paletted-requires : tie.Need-note-paletted-requires
 note-paletted-requires c κs = search needs

@@ -1,8 +1,8 @@
 use native.Mathlib.Omega.{arith}
 use borrow.Author.Needs.{needs}
 use Rattle.rules.proofs.Swaps.{swap-le}
-use Rattle.key.proofs.reads.placed.Statement.{statement}
-use Rattle.key.proofs.reads.placed.Tie as tie
+use Rattle.key_reads.proofs.reads.placed.Statement.{statement}
+use Rattle.key_reads.proofs.reads.placed.Tie as tie
 
 swap-odd-line-requires : tie.Need-swap-odd-line-requires
 swap-odd-line-requires c κs = search needs

@@ -1,4 +1,4 @@
--- `key::reads::entry_at` is the rule's address; an index is below 256, so the entry ends inside the bank. Assumes nothing.
+-- `key_reads::reads::entry_at` is the rule's address; an index is below 256, so the entry ends inside the bank. Assumes nothing.
 use Rattle.texdec.proofs.Palettes.{by-part, part-small}
 use Rattle.rdp.specs.View.{tileOf}
 use Rattle.rules.specs.Picture.{index}
@@ -6,8 +6,8 @@ use native.Mathlib.Omega.{arith}
 use Prim.Native.Nat.{_<_}
 use mathlib.Core.Path.{_≡_}
 use borrow.Author.Needs.{needs}
-use Rattle.key.proofs.reads.entry_at.Statement.{statement}
-use Rattle.key.proofs.reads.entry_at.Tie as tie
+use Rattle.key_reads.proofs.reads.entry_at.Statement.{statement}
+use Rattle.key_reads.proofs.reads.entry_at.Tie as tie
 
 -- the index is the rule's, and below 256
 index-is : (c : tie.After-palette-index) → let a = c .before .before .args in c .palette-index .result ≡ index (tileOf (a .tile)) (a .x) (a .byte)

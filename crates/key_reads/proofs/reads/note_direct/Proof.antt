@@ -1,9 +1,9 @@
--- `key::reads::note_direct` notes what the pair's texel reads: the laws of `Notes` by the number of its bytes. Assumes nothing.
+-- `key_reads::reads::note_direct` notes what the pair's texel reads: the laws of `Notes` by the number of its bytes. Assumes nothing.
 use mathlib.Core.Path.{refl}
 use borrow.Author.Needs.{needs}
-use Rattle.key.proofs.Notes.{four-noted, one-noted, two-noted}
-use Rattle.key.proofs.reads.note_direct.Statement.{statement}
-use Rattle.key.proofs.reads.note_direct.Tie as tie
+use Rattle.key_reads.proofs.Notes.{four-noted, one-noted, two-noted}
+use Rattle.key_reads.proofs.reads.note_direct.Statement.{statement}
+use Rattle.key_reads.proofs.reads.note_direct.Tie as tie
 
 placed-requires : tie.Need-placed-requires
 placed-requires c κs = search needs

@@ -1,0 +1,2 @@
+-- The laws of notes, for this crate and for the key.
+pub mod Notes
