@@ -1,2 +1,2 @@
--- The laws of notes, for this crate and for the key.
+-- The laws of notes, for this crate and those above it.
 pub mod Notes

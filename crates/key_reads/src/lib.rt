@@ -1,3 +1,2 @@
-// What a picture reads, noted a byte for each address of the bank. For the key alone (`key`).
-mod reads;
-pub mod rows;
+// What one texel reads, noted a byte for each address of the bank. For the key alone (`key_rows`).
+pub mod reads;

@@ -9,7 +9,7 @@ ghost use Rattle.rules.specs.Reading.{trail, upTo};
 ghost use Rattle.rules.specs.Picture.{plainRow, lookupRow, lookup};
 ghost use Rattle.rules.specs.Key.{noted};
 ghost use Rattle.rdp.specs.View.{tileOf};
-use crate::reads::note_texel;
+use key_reads::reads::note_texel;
 use rdp::tile::TileDescriptor;
 
 // Row y of a plain picture.
