@@ -2,7 +2,6 @@
 pub mod Lift
 pub mod Flips
 pub mod Inside
-pub mod Notes
 pub mod Period
 pub mod Cuts
 pub mod Within

@@ -15,7 +15,7 @@ use Rattle.rules.specs.Picture.{texel, column, rowStart, plainRow, plain, looku
 use Rattle.rules.specs.Key.{noted, Notes}
 use Rattle.rules.proofs.Readings.{trail-then}
 use Rattle.rules.proofs.Tables.{mem-append}
-use Rattle.key.proofs.Notes.{notes-of, notes-same}
+use Rattle.key_reads.proofs.Notes.{notes-of, notes-same}
 
 mem-more : (f : ℕ → Reading) (b : List ℕ) (n a : ℕ) → mem a (trail (upTo (suc n) f) b) ≡ (mem a (trail (upTo n f) b) || mem a (trail (f n) b))
 unfolding upTo

@@ -1,5 +1,3 @@
 // The key of a picture: the bank with every byte that making the picture reads kept, and all others zero.
 mod cut;
 pub mod key;
-mod reads;
-mod rows;

@@ -11,7 +11,7 @@ use borrow.Author.Tests.{le-ltb}
 use Rattle.rules.specs.Base.{over}
 use Rattle.rules.specs.Lister.{tornLine, lineText, listing}
 use Rattle.listing.specs.View.{recordTexts, fitted}
-use Rattle.listing.proofs.Writes.{Wrote, wrote-more, over-lent, over-within}
+use Rattle.decimal.proofs.Writes.{Wrote, wrote-more, over-lent, over-within}
 
 module _ (input out : List ℕ) (at : ℕ) (xs : List ℕ) (records : Wrote (recordTexts input (length input / 4112)) out at xs) where
   pub whole-text : eqb (length input % 4112) 0 ≡ true → Wrote (listing input) out at xs

@@ -6,7 +6,7 @@ use lib.ListN.{length, take, length-append}
 use lib.Seq.{length-take-le}
 use Rattle.rules.specs.Base.{over}
 use Rattle.rules.specs.Lister.{decimal, lineText}
-use Rattle.listing.proofs.Writes.{wrote-start, wrote-more}
+use Rattle.decimal.proofs.Writes.{wrote-start, wrote-more}
 
 -- the number n and the byte after it were written from `at` on, and end at `end`
 abbrev pub Put : ℕ → ℕ → List ℕ → ℕ → List ℕ → ℕ → Type 0

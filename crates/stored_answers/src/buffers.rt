@@ -33,15 +33,6 @@ pub(crate) fn poke(out: &mut [u8], at: u32, value: u32) {
     }
 }
 
-// Every byte 165, as the buffers that a call overwrites are lent.
-pub(crate) fn stain(out: &mut [u8]) {
-    let mut i = 0;
-    while i < out.len() {
-        out[i] = 165;
-        i += 1;
-    }
-}
-
 // One byte more of a digest.
 fn digest_byte(d: u32, b: u8) -> u32 {
     ((d as u64 * 31 + b as u64) % 4294967296) as u32
@@ -56,8 +47,4 @@ pub(crate) fn digest_on(start: u32, b: &[u8]) -> u32 {
         i += 1;
     }
     d
-}
-
-pub(crate) fn digest(b: &[u8]) -> u32 {
-    digest_on(1, b)
 }

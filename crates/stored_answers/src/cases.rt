@@ -1,59 +1,59 @@
 // One stored case: the call made again, and its answer and buffers compared with the stored ones.
+ghost use mathlib.Core.Path.{_≡_};
+ghost use lib.ListN.{length};
 use crate::buffers;
 use crate::record;
 use rdp::answer::Answer;
 
 // The bank of a case.
-fn bank_of(r: &[u8], bank: &mut [u8]) {
-    buffers::made(bank, record::four(r, 30), 0);
-    buffers::poke(bank, record::two(r, 26), record::two(r, 28));
+fn bank_of(r: &[u8]) -> [u8; 4096]
+    ensures { λ b. ⌜ 4096 ≡ length b ⌝ }
+{
+    let mut bank = [0u8; 4096];
+    buffers::made(&mut bank, record::four(r, 30), 0);
+    buffers::poke(&mut bank, record::two(r, 26), record::two(r, 28));
+    bank
 }
 
 // The stored digests of the first and of the second buffer.
 fn first_is(r: &[u8], b: &[u8]) -> bool {
-    buffers::digest(b) == record::four(r, 56)
+    buffers::digest_on(1, b) == record::four(r, 56)
 }
 
 fn second_is(r: &[u8], b: &[u8]) -> bool {
-    buffers::digest(b) == record::four(r, 60)
+    buffers::digest_on(1, b) == record::four(r, 60)
 }
 
-// The stored answer and both stored digests.
-fn both_are(r: &[u8], answer: Answer, first: &[u8], second: &[u8]) -> bool {
-    record::answered(r, answer.refusal, answer.count) & first_is(r, first) & second_is(r, second)
+// The stored answer and the first stored digest.
+fn answer_is(r: &[u8], answer: Answer, first: &[u8]) -> bool {
+    record::answered(r, answer.refusal, answer.count) & first_is(r, first)
 }
 
-// A block, tile or TLUT load of a source of the case's length.
-fn load_holds(r: &[u8], kind: u32, bank: &mut [u8], written: &mut [u8], source: &[u8]) -> bool {
+// A block, tile or TLUT load.
+fn load(r: &[u8], kind: u32, bank: &mut [u8], written: &mut [u8], source: &[u8]) -> Answer {
     let tile = record::tile(r);
     let image = record::two(r, 18);
     let a = record::two(r, 20);
     let b = record::two(r, 22);
     let c = record::two(r, 24);
-    if kind == 1 {
-        let answer = tmem::load::write_block_for_tile(bank, written, source, tile, image, a, b);
-        return both_are(r, answer, bank, written);
+    match kind {
+        1 => tmem::load::write_block_for_tile(bank, written, source, tile, image, a, b),
+        2 => tmem::load::write_tile_for_tile(bank, written, source, tile, image, a, b, c),
+        _ => tmem::load::write_tlut_for_tile(bank, written, source, tile, image, a, b, c),
     }
-    if kind == 2 {
-        let answer = tmem::load::write_tile_for_tile(bank, written, source, tile, image, a, b, c);
-        return both_are(r, answer, bank, written);
-    }
-    let answer = tmem::load::write_tlut_for_tile(bank, written, source, tile, image, a, b, c);
-    both_are(r, answer, bank, written)
 }
 
-fn load_case(r: &[u8], kind: u32, bank: &mut [u8], source: &mut [u8]) -> bool {
+// A load of a source of the case's length.
+fn load_case(r: &[u8], kind: u32) -> bool {
+    let mut bank = bank_of(r);
     let mut written = [0u8; 512];
+    let mut source = [0u8; 65536];
     let seed = record::four(r, 30);
-    bank_of(r, bank);
     buffers::made(&mut written, seed, 1);
-    buffers::made(source, seed, 2);
-    let long = record::four(r, 34) as usize;
-    if long <= source.len() {
-        load_holds(r, kind, bank, &mut written, &source[..long])
-    } else {
-        false
-    }
+    buffers::made(&mut source, seed, 2);
+    let long = record::long(r, 34, 65536);
+    let answer = load(r, kind, &mut bank, &mut written, &source[..long]);
+    answer_is(r, answer, &bank) & second_is(r, &written)
 }
 
 fn sampling_case(r: &[u8]) -> bool {
@@ -63,80 +63,34 @@ fn sampling_case(r: &[u8]) -> bool {
         & (answer.height == record::two(r, 54))
 }
 
-// A plain picture (kind 5) or a lookup.
-fn picture_holds(r: &[u8], kind: u32, bank: &[u8], picture: &mut [u8]) -> bool {
+// A plain picture (kinds 5 and 6) or a lookup, without (5 and 7) or with its trail.
+fn picture(r: &[u8], kind: u32, bank: &[u8], out: &mut [u8], trail: &mut [u8]) -> Answer {
     let tile = record::tile(r);
     let mode = record::mode(r);
     let lane = record::lane(r);
-    if kind == 5 {
-        let answer = decoder::picture::sample_tile_lane(bank, tile, mode, lane, picture);
-        return record::answered(r, answer.refusal, answer.count) & first_is(r, picture);
-    }
-    let answer = decoder::picture::sampling_lookup_lane(bank, tile, mode, lane, picture);
-    record::answered(r, answer.refusal, answer.count) & first_is(r, picture)
-}
-
-fn picture_case(r: &[u8], kind: u32, bank: &mut [u8], picture: &mut [u8]) -> bool {
-    bank_of(r, bank);
-    buffers::stain(picture);
-    let long = record::four(r, 38) as usize;
-    if long <= picture.len() {
-        picture_holds(r, kind, bank, &mut picture[..long])
-    } else {
-        false
+    match kind {
+        5 => decoder::picture::sample_tile_lane(bank, tile, mode, lane, out),
+        6 => decoder::picture::sample_tile_lane_observed(bank, tile, mode, lane, out, trail),
+        7 => decoder::picture::sampling_lookup_lane(bank, tile, mode, lane, out),
+        _ => decoder::picture::sampling_lookup_lane_observed(bank, tile, mode, lane, out, trail),
     }
 }
 
-// The same with a trail; kind 6 is the plain one.
-fn observed_holds(r: &[u8], kind: u32, bank: &[u8], picture: &mut [u8], trail: &mut [u8]) -> bool {
-    let tile = record::tile(r);
-    let mode = record::mode(r);
-    let lane = record::lane(r);
-    if kind == 6 {
-        let answer = decoder::picture::sample_tile_lane_observed(
-            bank,
-            tile,
-            mode,
-            lane,
-            picture,
-            trail,
-        );
-        return both_are(r, answer, picture, trail);
-    }
-    let answer = decoder::picture::sampling_lookup_lane_observed(
-        bank,
-        tile,
-        mode,
-        lane,
-        picture,
-        trail,
-    );
-    both_are(r, answer, picture, trail)
-}
-
-fn observed_case(
-    r: &[u8],
-    kind: u32,
-    bank: &mut [u8],
-    picture: &mut [u8],
-    trail: &mut [u8],
-) -> bool {
-    bank_of(r, bank);
-    buffers::stain(picture);
-    buffers::stain(trail);
-    let long = record::four(r, 38) as usize;
-    let told = record::four(r, 42) as usize;
-    if long <= picture.len() {
-        if told <= trail.len() {
-            return observed_holds(r, kind, bank, &mut picture[..long], &mut trail[..told]);
-        }
-    }
-    false
+// A picture and a trail of the case's lengths; without a trail no digest of one is stored.
+fn picture_case(r: &[u8], kind: u32) -> bool {
+    let bank = bank_of(r);
+    let mut out = [165u8; 65536];
+    let mut seen = [165u8; 131072];
+    let long = record::long(r, 38, 65536);
+    let told = record::long(r, 42, 131072);
+    let whole = &mut out[..long];
+    let trail = &mut seen[..told];
+    let answer = picture(r, kind, &bank, whole, trail);
+    answer_is(r, answer, whole) & ((kind % 2 == 1) | second_is(r, trail))
 }
 
 fn reach_case(r: &[u8]) -> bool {
-    let mut map = [0u8; 512];
-    buffers::stain(&mut map);
+    let mut map = [165u8; 512];
     let refusal = reach::reach::reach(record::tile(r), record::mode(r), &mut map);
     record::answered(r, refusal, 0) & first_is(r, &map)
 }
@@ -150,40 +104,27 @@ fn has_load_case(r: &[u8]) -> bool {
 }
 
 fn lane_case(r: &[u8]) -> bool {
-    let mut bank = [0u8; 4096];
-    let mut map = [0u8; 32];
-    bank_of(r, &mut bank);
-    buffers::stain(&mut map);
+    let bank = bank_of(r);
+    let mut map = [165u8; 32];
     let refusal = lane_check::lane::palette_nonreplicated_bytes(&bank, &mut map);
     record::answered(r, refusal, 0) & first_is(r, &map)
 }
 
 fn key_case(r: &[u8]) -> bool {
-    let mut bank = [0u8; 4096];
-    let mut kept = [0u8; 4096];
-    bank_of(r, &mut bank);
-    buffers::stain(&mut kept);
-    let answer = key::key::key(
-        &bank,
-        record::tile(r),
-        record::mode(r),
-        record::lane(r),
-        &mut kept,
-    );
-    record::answered(r, answer.refusal, answer.count) & first_is(r, &kept)
+    let bank = bank_of(r);
+    let mut kept = [165u8; 4096];
+    let tile = record::tile(r);
+    let answer = key::key::key(&bank, tile, record::mode(r), record::lane(r), &mut kept);
+    answer_is(r, answer, &kept)
 }
 
-// The case by its kind, in buffers of the largest sizes.
+// The case by its kind.
 pub(crate) fn holds(r: &[u8]) -> bool {
-    let mut bank = [0u8; 4096];
-    let mut large = [0u8; 65536];
-    let mut trail = [0u8; 131072];
     let kind = record::one(r, 0);
     match kind {
-        1 | 2 | 3 => load_case(r, kind, &mut bank, &mut large),
+        1 | 2 | 3 => load_case(r, kind),
         4 => sampling_case(r),
-        5 | 7 => picture_case(r, kind, &mut bank, &mut large),
-        6 | 8 => observed_case(r, kind, &mut bank, &mut large, &mut trail),
+        5 | 6 | 7 | 8 => picture_case(r, kind),
         9 => reach_case(r),
         10 => has_load_case(r),
         11 => lane_case(r),

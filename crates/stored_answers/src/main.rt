@@ -7,23 +7,21 @@ mod record;
 use libc::STDIN_FILENO;
 use libc::STDOUT_FILENO;
 
-// What was found so far, and the digest of all bytes so far.
+// What was found so far, the digest of all bytes so far, and whether the last record was the end record with the digest of all
+// bytes before its own.
 struct Tally {
     cases: u64,
     wrong: u64,
     sum: u32,
     whole: bool,
-    done: bool,
 }
 
-// The end of the file: whole where the end record's digest is that of all bytes before it.
-fn ended(t: Tally, whole: bool) -> Tally {
+fn ended(t: Tally, sum: u32, whole: bool) -> Tally {
     Tally {
         cases: t.cases,
         wrong: t.wrong,
-        sum: t.sum,
+        sum,
         whole,
-        done: true,
     }
 }
 
@@ -33,23 +31,27 @@ fn counted(t: Tally, sum: u32, holds: bool) -> Tally {
         wrong: std::num::wrapping_add_u64(t.wrong, !holds as u64),
         sum,
         whole: false,
-        done: false,
     }
 }
 
-// One record more.
+// One record more: the end record, or a case.
+fn after(t: Tally, r: &[u8], most: u32, all: u32) -> Tally {
+    if record::one(r, 0) == 255 {
+        ended(t, all, most == record::four(r, 60))
+    } else {
+        counted(t, all, cases::holds(r))
+    }
+}
+
+// Past the end of the input nothing changes.
 fn step(t: Tally) -> Tally {
-    let mut bytes = [0u8; 64];
-    let got = io::read_full(STDIN_FILENO, &mut bytes);
-    if got < 64 {
-        return ended(t, false);
+    let mut r = [0u8; 64];
+    if io::read_full(STDIN_FILENO, &mut r) < 64 {
+        return t;
     }
-    if bytes[0] == 255 {
-        let sum = buffers::digest_on(t.sum, &bytes[..60]);
-        return ended(t, sum == record::four(&bytes, 60));
-    }
-    let sum = buffers::digest_on(t.sum, &bytes);
-    counted(t, sum, cases::holds(&bytes))
+    let most = buffers::digest_on(t.sum, &r[..60]);
+    let all = buffers::digest_on(t.sum, &r);
+    after(t, &r, most, all)
 }
 
 // The first record says how the file was made; the others are replayed, ten thousand at most.
@@ -61,12 +63,9 @@ fn replay() -> Tally {
         wrong: 0,
         sum: buffers::digest_on(1, &head),
         whole: false,
-        done: false,
     };
     for _ in 0..10000u32 {
-        if !t.done {
-            t = step(t);
-        }
+        t = step(t);
     }
     t
 }

@@ -1,4 +1,5 @@
 // The numbers of a record, big end first.
+ghost use Prim.Native.Nat.{_≤_};
 use rdp::tile::TileDescriptor;
 use rdp::units::LineWords;
 use rdp::units::WordAddr;
@@ -32,6 +33,14 @@ pub(crate) fn four(r: &[u8], k: usize) -> u32 {
     } else {
         0
     }
+}
+
+// A length of at most `most` bytes.
+pub(crate) fn long(r: &[u8], k: usize, most: usize) -> usize
+    ensures { λ n. ⌜ n ≤ most ⌝ }
+{
+    let n = four(r, k) as usize;
+    if n < most { n } else { most }
 }
 
 // The tile of the lister's sixteen bytes, which stand from 2 on.

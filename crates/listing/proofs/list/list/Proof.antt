@@ -6,7 +6,7 @@ use lib.ListN.{length}
 use borrow.Author.Tests.{lt-ltb, le-ltb, eq-eqb, ne-eqb}
 use Rattle.rules.specs.Base.{over}
 use Rattle.listing.specs.View.{recordTexts}
-use Rattle.listing.proofs.Writes.{Wrote}
+use Rattle.decimal.proofs.Writes.{Wrote}
 use Rattle.listing.proofs.Listed.{whole-text, torn-text}
 use borrow.Author.Needs.{needs}
 use Rattle.listing.proofs.list.list.Statement.{statement}

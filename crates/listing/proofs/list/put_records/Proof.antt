@@ -7,7 +7,7 @@ use borrow.Author.Needs.{needs}
 use Rattle.rules.specs.Base.{tab, tabFrom, concat}
 use Rattle.rules.proofs.Tables.{concat-more}
 use Rattle.listing.specs.View.{recordText, recordTexts}
-use Rattle.listing.proofs.Writes.{Wrote, wrote-none, wrote-more}
+use Rattle.decimal.proofs.Writes.{Wrote, wrote-none, wrote-more}
 use Rattle.listing.proofs.list.put_records.Statement.{statement}
 use Rattle.listing.proofs.list.put_records.Tie as tie
 

@@ -1,4 +1,4 @@
--- `stored_answers::cases::picture_case` reads the picture into the part of the case's length, which fits. Assumes nothing.
+-- `stored_answers::cases::picture_case`
 use native.Mathlib.Omega.{arith}
 use lib.ListN.{length-take}
 use borrow.Author.Needs.{needs}
@@ -8,56 +8,52 @@ use Rattle.stored_answers.proofs.cases.picture_case.Tie as tie
 bank-of-requires : tie.Need-bank-of-requires
 bank-of-requires c κs = search needs
 
-stain-requires : tie.Need-stain-requires
-stain-requires c κs = search needs
+long-requires : tie.Need-long-requires
+long-requires c κs = search needs
 
-four-requires : tie.Need-four-requires
-four-requires c κs = search needs
+long-requires-2 : tie.Need-long-requires-2
+long-requires-2 c κs = search needs
 
-cast-long : tie.Need-cast-long
-cast-long c = search needs
+array-borrow-prefix-out : tie.Need-array-borrow-prefix-out
+array-borrow-prefix-out c = search needs
 
-slice-relend-prefix-picture-holds : tie.Need-slice-relend-prefix-picture-holds
-slice-relend-prefix-picture-holds c = search needs
+slice-aggregate-whole : tie.Need-slice-aggregate-whole
+slice-aggregate-whole c = simp length-take (omega arith)
 
-slice-aggregate-picture-holds : tie.Need-slice-aggregate-picture-holds
-slice-aggregate-picture-holds c = simp length-take (omega arith)
+array-borrow-prefix-seen : tie.Need-array-borrow-prefix-seen
+array-borrow-prefix-seen c = search needs
 
-picture-holds-requires : tie.Need-picture-holds-requires
-picture-holds-requires c κs = search needs
+slice-aggregate-trail : tie.Need-slice-aggregate-trail
+slice-aggregate-trail c = simp length-take (omega arith)
 
-same-length : tie.Need-same-length
-same-length c = search needs
+slice-aggregate-picture : tie.Need-slice-aggregate-picture
+slice-aggregate-picture c = search needs
 
-same-length-2 : tie.Need-same-length-2
-same-length-2 c = search needs
+picture-requires : tie.Need-picture-requires
+picture-requires c κs = search needs
+
+answer-is-requires : tie.Need-answer-is-requires
+answer-is-requires c κs = search needs
+
+second-is-requires : tie.Need-second-is-requires
+second-is-requires c κs = search needs
 
 returns : tie.Need-returns
 returns c = search needs
-
-same-length-3 : tie.Need-same-length-3
-same-length-3 c = search needs
-
-same-length-4 : tie.Need-same-length-4
-same-length-4 c = search needs
-
-returns-2 : tie.Need-returns-2
-returns-2 c = search needs
 
 pub picture-case-spec : {M : Type 1} → statement M
 picture-case-spec =
     tie.close
     (tie.spec
     bank-of-requires
-    stain-requires
-    four-requires
-    cast-long
-    slice-relend-prefix-picture-holds
-    slice-aggregate-picture-holds
-    picture-holds-requires
-    same-length
-    same-length-2
-    returns
-    same-length-3
-    same-length-4
-    returns-2)
+    long-requires
+    long-requires-2
+    array-borrow-prefix-out
+    slice-aggregate-whole
+    array-borrow-prefix-seen
+    slice-aggregate-trail
+    slice-aggregate-picture
+    picture-requires
+    answer-is-requires
+    second-is-requires
+    returns)

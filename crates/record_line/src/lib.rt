@@ -1,0 +1,2 @@
+// A record's line, for the lister (`listing`).
+pub mod line;
