@@ -11,6 +11,7 @@ use Rattle.rules.specs.Base.{mem}
 use Rattle.rules.specs.Tile.{Tile}
 use Rattle.rules.specs.Reading.{Reading, trail, upTo}
 use Rattle.rules.specs.Sampling.{flag}
+use Rattle.key_reads.specs.Rows.{rowsRead}
 use Rattle.rules.specs.Picture.{texel, column, rowStart, plainRow, plain, lookup, picture}
 use Rattle.rules.specs.Key.{noted, Notes}
 use Rattle.rules.proofs.Readings.{trail-then}
@@ -64,13 +65,9 @@ unfolding plain
 plain-capped t mode lane b a = capped (plainRow t mode lane) b (row-period t mode lane) (t .height) a
 
 -- the notes of a lookup, and of a plain picture's first 256 rows, are those of the picture that the flag calls for
-pub lookup-notes : (t : Tile) (mode lane : ℕ) (b s u : List ℕ) → flag t mode ≡ true → s ≡ replicate 4096 0
-    → u ≡ noted s (trail (lookup t mode lane) b) → Notes u (trail (picture t mode lane) b)
+pub rows-notes : (t : Tile) (mode lane : ℕ) (looked : Bool) (b s u : List ℕ) → looked ≡ flag t mode → s ≡ replicate 4096 0
+    → u ≡ noted s (trail (rowsRead looked t mode lane) b) → Notes u (trail (picture t mode lane) b)
 unfolding picture
-lookup-notes t mode lane b s u f z e = rw (picture, f, e, z) (notes-of (trail (lookup t mode lane) b))
-
-pub plain-notes : (t : Tile) (mode lane : ℕ) (b s u : List ℕ) → flag t mode ≡ false → s ≡ replicate 4096 0
-    → u ≡ noted s (trail (upTo (min (t .height) 256) (plainRow t mode lane)) b) → Notes u (trail (picture t mode lane) b)
-unfolding picture
-plain-notes t mode lane b s u f z e =
-    rw (picture, f, e, z) (notes-same _ _ _ (plain-capped t mode lane b) (notes-of (trail (upTo (min (t .height) 256) (plainRow t mode lane)) b)))
+rows-notes t mode lane true b s u f z e = rw (picture, ← f, e, z) (notes-of (trail (lookup t mode lane) b))
+rows-notes t mode lane false b s u f z e =
+    rw (picture, ← f, e, z) (notes-same _ _ _ (plain-capped t mode lane b) (notes-of (trail (upTo (min (t .height) 256) (plainRow t mode lane)) b)))

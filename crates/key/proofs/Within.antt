@@ -8,12 +8,12 @@ use Rattle.rules.specs.Tile.{Tile}
 use Rattle.rules.specs.Refusal.{first}
 use Rattle.rules.specs.Calls.{pairTests, unknownPair, keyTests}
 use Rattle.rules.proofs.Refused.{Passed, numbered, passed, first-next}
-use Rattle.rules.proofs.Allowed.{Allowed, allowed, never-nine}
+use Rattle.rules.proofs.Allowed.{never-nine}
 
 pub record Within (bank : List ℕ) (t : Tile) (mode lane : ℕ) (out : List ℕ) : Type 0 where
   pub bank-whole : length bank ≡ 4096
   pub out-whole : length out ≡ 4096
-  pub call : Allowed t mode lane
+  pub pair : first (pairTests t mode lane []) ≡ 0
 
 pub within : (bank : List ℕ) (t : Tile) (mode lane : ℕ) (out : List ℕ) → first (keyTests bank t mode lane out) ≡ 0
     → Within bank t mode lane out
@@ -24,5 +24,5 @@ within bank t mode lane out h =
     record {
       bank-whole = eqb-true _ _ (not-false _ (p .0));
       out-whole = eqb-true _ _ (not-false _ (p .1 .0));
-      call = allowed t mode lane (never-nine t mode lane ∙ pair);
+      pair = never-nine t mode lane ∙ pair;
     }

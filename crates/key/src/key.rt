@@ -1,21 +1,16 @@
 // The key of a picture.
 ghost use mathlib.Core.Path.{_≡_};
-ghost use mathlib.Core.Bool.{true};
 ghost use mathlib.Core.List.{[], _∷_};
-ghost use Prim.Native.Nat.{_≤_};
 ghost use lib.ListN.{length, replicate};
-ghost use Rattle.rules.specs.Texdec.{accepted};
-ghost use Rattle.rules.specs.Tile.{InRange};
 ghost use Rattle.rules.specs.Reading.{trail};
 ghost use Rattle.rules.specs.Picture.{picture};
 ghost use Rattle.rules.specs.Refusal.{first};
-ghost use Rattle.rules.specs.Calls.{keyTests, keyCall};
+ghost use Rattle.rules.specs.Calls.{pairTests, keyTests, keyCall};
 ghost use Rattle.rules.specs.Key.{key, keptCount, Notes};
 ghost use Rattle.rdp.specs.View.{tileOf, answered};
 use crate::cut::cut;
 use crate::cut::empty_key;
-use key_rows::rows::note_lookup;
-use key_rows::rows::note_plain;
+use key_reads::rows::note_rows;
 use rdp::answer::Answer;
 use rdp::refusal;
 use rdp::tile::TileDescriptor;
@@ -39,25 +34,17 @@ fn key_refusal(bank: &[u8], tile: TileDescriptor, tlut: u32, lane: u32, out: &[u
 fn note_picture(bank: &[u8], seen: &mut [u8], tile: TileDescriptor, tlut: u32, lane: u32)
     requires { ⌜ length (now bank) ≡ 4096 ⌝ }
     requires { ⌜ now seen ≡ replicate 4096 0 ⌝ }
-    requires { ⌜ InRange (tileOf tile) ⌝ }
-    requires { ⌜ lane ≤ 3 ⌝ }
-    requires { ⌜ accepted tlut (tile .fmt) (tile .siz) ≡ true ⌝ }
+    requires { ⌜ first (pairTests (tileOf tile) tlut lane []) ≡ 0 ⌝ }
     ensures { λ _. ⌜ Notes (now (seen .exit)) (trail (picture (tileOf tile) tlut lane) (now (bank .entry))) ⌝ }
 {
     let sampling = TileSampling::from_tile(tile, tlut);
-    if sampling.lookup {
-        note_lookup(bank, seen, tile, tlut, lane);
-    } else {
-        note_plain(bank, seen, tile, tlut, lane);
-    }
+    note_rows(bank, seen, tile, tlut, lane, sampling.lookup);
 }
 
 // The key of that picture, and its kept count.
 fn cut_picture(bank: &[u8], tile: TileDescriptor, tlut: u32, lane: u32, out: &mut [u8]) -> u32
     requires { ⌜ (length (now bank) ≡ 4096) × (length (now out) ≡ 4096) ⌝ }
-    requires { ⌜ InRange (tileOf tile) ⌝ }
-    requires { ⌜ lane ≤ 3 ⌝ }
-    requires { ⌜ accepted tlut (tile .fmt) (tile .siz) ≡ true ⌝ }
+    requires { ⌜ first (pairTests (tileOf tile) tlut lane []) ≡ 0 ⌝ }
     ensures { λ r. ⌜ (now (out .exit) ≡ key (tileOf tile) tlut lane (now (bank .entry))) × (r ≡ keptCount (tileOf tile) tlut lane (now (bank .entry))) ⌝ }
 {
     let mut seen = empty_key();

@@ -1,2 +1,3 @@
-// What one texel reads, noted a byte for each address of the bank. For the key alone (`key_rows`).
-pub mod reads;
+// What a picture reads, noted a byte for each address of the bank. Crate `key` cuts by it.
+mod reads;
+pub mod rows;

@@ -94,7 +94,7 @@ fn note_paletted(
 }
 
 // What one texel reads.
-pub fn note_texel(
+pub(crate) fn note_texel(
     bank: &[u8],
     seen: &mut [u8],
     tile: TileDescriptor,

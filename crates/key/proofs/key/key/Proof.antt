@@ -39,7 +39,7 @@ cut-picture-requires : tie.Need-cut-picture-requires
 cut-picture-requires c κs =
     let a = c .before .before .before .before .before .before .args in
     let w = within (a .bank .now) (tileOf (a .tile)) (a .tlut) (a .lane) (a .out .now) (zero (c .before)) in
-    ((w .bank-whole, w .out-whole), (w .call .inside, (w .call .lane-le, w .call .pair)))
+    ((w .bank-whole, w .out-whole), w .pair)
 
 same-length-2 : tie.Need-same-length-2
 same-length-2 c = search needs

@@ -1,4 +1,4 @@
--- `key_rows::rows::note_plain_row` notes its row texel by texel: so far, what the first x texels read. Assumes nothing.
+-- `key_reads::rows::note_plain_row` notes its row texel by texel: so far, what the first x texels read. Assumes nothing.
 use mathlib.Core.Path.{_≡_, refl, sym, _∙_}
 use Prim.Native.Nat.{ℕ, _+_, _-_, _≤_, _<_}
 use native.Mathlib.Omega.{arith}
@@ -9,9 +9,9 @@ use Rattle.rules.specs.Picture.{texel, column, plainRow}
 use Rattle.rules.specs.Key.{noted}
 use Rattle.rules.proofs.Rows.{column-le, row-start-le}
 use Rattle.rdp.specs.View.{tileOf}
 use Rattle.key_reads.proofs.Notes.{noted-more}
-use Rattle.key_rows.proofs.rows.note_plain_row.Statement.{statement}
-use Rattle.key_rows.proofs.rows.note_plain_row.Tie as tie
+use Rattle.key_reads.proofs.rows.note_plain_row.Statement.{statement}
+use Rattle.key_reads.proofs.rows.note_plain_row.Tie as tie
 
 abbrev Inv-loop : tie.InvT-loop
 Inv-loop bank seen₀ tile tlut lane y start odd width x₀ seen x =

@@ -1,4 +1,4 @@
--- `key_rows::rows::note_lookup` notes its four rows one after the other. Assumes nothing.
+-- `key_reads::rows::note_lookup` notes its four rows one after the other. Assumes nothing.
 use mathlib.Core.Path.{_≡_, refl, sym, _∙_}
 use Prim.Native.Nat.{_-_, _≤_}
 use native.Mathlib.Omega.{arith}
@@ -7,9 +7,9 @@ use Rattle.rules.specs.Reading.{trail, upTo}
 use Rattle.rules.specs.Picture.{lookupRow, lookup}
 use Rattle.rules.specs.Key.{noted}
 use Rattle.rdp.specs.View.{tileOf}
 use Rattle.key_reads.proofs.Notes.{noted-more}
-use Rattle.key_rows.proofs.rows.note_lookup.Statement.{statement}
-use Rattle.key_rows.proofs.rows.note_lookup.Tie as tie
+use Rattle.key_reads.proofs.rows.note_lookup.Statement.{statement}
+use Rattle.key_reads.proofs.rows.note_lookup.Tie as tie
 
 abbrev Inv-loop : tie.InvT-loop
 Inv-loop bank seen₀ tile tlut lane r₀ seen r =

@@ -1,4 +1,4 @@
--- `key_rows::rows::note_plain` notes its rows one after the other, 256 of them at most. Assumes nothing.
+-- `key_reads::rows::note_plain` notes its rows one after the other, 256 of them at most. Assumes nothing.
 use mathlib.Core.Path.{_≡_, refl, sym, _∙_}
 use Prim.Native.Nat.{_-_, _≤_, min}
 use native.Mathlib.Omega.{arith}
@@ -8,9 +8,9 @@ use Rattle.rules.specs.Reading.{trail, upTo}
 use Rattle.rules.specs.Picture.{plainRow}
 use Rattle.rules.specs.Key.{noted}
 use Rattle.rdp.specs.View.{tileOf}
 use Rattle.key_reads.proofs.Notes.{noted-more}
-use Rattle.key_rows.proofs.rows.note_plain.Statement.{statement}
-use Rattle.key_rows.proofs.rows.note_plain.Tie as tie
+use Rattle.key_reads.proofs.rows.note_plain.Statement.{statement}
+use Rattle.key_reads.proofs.rows.note_plain.Tie as tie
 
 abbrev Inv-loop : tie.InvT-loop
 Inv-loop bank seen₀ tile tlut lane rows y₀ seen y =

@@ -1,16 +1,21 @@
 // The addresses that a picture reads, noted row by row.
 ghost use mathlib.Core.Path.{_≡_};
 ghost use mathlib.Core.Bool.{true};
+ghost use mathlib.Core.List.{[]};
 ghost use Prim.Native.Nat.{_≤_, min};
 ghost use lib.ListN.{length};
 ghost use Rattle.rules.specs.Texdec.{accepted};
 ghost use Rattle.rules.specs.Tile.{InRange};
 ghost use Rattle.rules.specs.Reading.{trail, upTo};
 ghost use Rattle.rules.specs.Picture.{plainRow, lookupRow, lookup};
+ghost use Rattle.rules.specs.Refusal.{first};
+ghost use Rattle.rules.specs.Calls.{pairTests};
 ghost use Rattle.rules.specs.Key.{noted};
 ghost use Rattle.rdp.specs.View.{tileOf};
-use key_reads::reads::note_texel;
+ghost use Rattle.key_reads.specs.Rows.{rowsRead};
+use crate::reads::note_texel;
 use rdp::tile::TileDescriptor;
+use texdec::pair::pair_refusal;
 
 // Row y of a plain picture.
 fn note_plain_row(bank: &[u8], seen: &mut [u8], tile: TileDescriptor, tlut: u32, lane: u32, y: u32)
@@ -45,7 +50,7 @@ fn rows_read(height: u32) -> u32
 }
 
 // A plain picture.
-pub fn note_plain(bank: &[u8], seen: &mut [u8], tile: TileDescriptor, tlut: u32, lane: u32)
+fn note_plain(bank: &[u8], seen: &mut [u8], tile: TileDescriptor, tlut: u32, lane: u32)
     requires { ⌜ (length (now bank) ≡ 4096) × (length (now seen) ≡ 4096) ⌝ }
     requires { ⌜ InRange (tileOf tile) ⌝ }
     requires { ⌜ lane ≤ 3 ⌝ }
@@ -81,7 +86,7 @@ fn note_lookup_row(
 }
 
 // A lookup.
-pub fn note_lookup(bank: &[u8], seen: &mut [u8], tile: TileDescriptor, tlut: u32, lane: u32)
+fn note_lookup(bank: &[u8], seen: &mut [u8], tile: TileDescriptor, tlut: u32, lane: u32)
     requires { ⌜ (length (now bank) ≡ 4096) × (length (now seen) ≡ 4096) ⌝ }
     requires { ⌜ InRange (tileOf tile) ⌝ }
     requires { ⌜ lane ≤ 3 ⌝ }
@@ -91,4 +96,31 @@ pub fn note_lookup(bank: &[u8], seen: &mut [u8], tile: TileDescriptor, tlut: u32
     for r in 0..4 {
         note_lookup_row(bank, seen, tile, tlut, lane, r);
     }
+}
+
+// The lookup or the plain picture of an accepted tile, mode and lane. Of any other input nothing is noted.
+pub fn note_rows(
+    bank: &[u8],
+    seen: &mut [u8],
+    tile: TileDescriptor,
+    tlut: u32,
+    lane: u32,
+    lookup: bool,
+)
+    ensures { λ _. ⌜ (length (now (bank .entry)) ≡ 4096 → length (now (seen .entry)) ≡ 4096 → first (pairTests (tileOf tile) tlut lane []) ≡ 0 → now (seen .exit) ≡ noted (now (seen .entry)) (trail (rowsRead lookup (tileOf tile) tlut lane) (now (bank .entry)))) ⌝ }
+{
+    if bank.len() != 4096 {
+        return;
+    }
+    if seen.len() != 4096 {
+        return;
+    }
+    if pair_refusal(tile, tlut, lane) != 0 {
+        return;
+    }
+    if lookup {
+        note_lookup(bank, seen, tile, tlut, lane);
+        return;
+    }
+    note_plain(bank, seen, tile, tlut, lane);
 }

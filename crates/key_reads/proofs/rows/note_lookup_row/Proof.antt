@@ -1,4 +1,4 @@
--- `key_rows::rows::note_lookup_row` notes its row texel by texel: so far, what the first rel texels read. Assumes nothing.
+-- `key_reads::rows::note_lookup_row` notes its row texel by texel: so far, what the first rel texels read. Assumes nothing.
 use mathlib.Core.Path.{_≡_, refl, sym, _∙_}
 use Prim.Native.Nat.{_-_, _≤_}
 use native.Mathlib.Omega.{arith}
@@ -7,9 +7,9 @@ use Rattle.rules.specs.Reading.{trail, upTo}
 use Rattle.rules.specs.Picture.{texel, lookupRow}
 use Rattle.rules.specs.Key.{noted}
 use Rattle.rdp.specs.View.{tileOf}
 use Rattle.key_reads.proofs.Notes.{noted-more}
-use Rattle.key_rows.proofs.rows.note_lookup_row.Statement.{statement}
-use Rattle.key_rows.proofs.rows.note_lookup_row.Tie as tie
+use Rattle.key_reads.proofs.rows.note_lookup_row.Statement.{statement}
+use Rattle.key_reads.proofs.rows.note_lookup_row.Tie as tie
 
 abbrev Inv-loop : tie.InvT-loop
 Inv-loop bank seen₀ tile tlut lane r odd parity rel₀ seen rel =
