@@ -22,7 +22,7 @@ fn put_digits(n: u32, out: &mut [u8]) -> usize
 }
 
 // A number's digits and the byte that follows them, from `at` on. The new end is answered.
-pub fn put_number(n: u32, after: u8, out: &mut [u8], at: usize) -> usize
+fn write_number(n: u32, after: u8, out: &mut [u8], at: usize) -> usize
     requires { ⌜ at + 11 ≤ length (now out) ⌝ }
     ensures { λ r. ⌜ r ≡ at + length (decimal n ++ (after ∷ [])) ⌝ }
     ensures { λ r. ⌜ r ≤ at + 11 ⌝ }
@@ -31,4 +31,17 @@ pub fn put_number(n: u32, after: u8, out: &mut [u8], at: usize) -> usize
     let end = at + put_digits(n, &mut out[at..]);
     out[end] = after;
     end + 1
+}
+
+// The same where there is room for the longest number; else nothing is written, and `at` is answered.
+pub fn put_number(n: u32, after: u8, out: &mut [u8], at: usize) -> usize
+    ensures { λ r. ⌜ (at + 11 ≤ length (now (out .entry)) → (r ≡ at + length (decimal n ++ (after ∷ []))) × ((r ≤ at + 11) × (now (out .exit) ≡ over (take at (now (out .entry)) ++ (decimal n ++ (after ∷ []))) (now (out .entry))))) ⌝ }
+{
+    if out.len() < 11 {
+        return at;
+    }
+    if out.len() - 11 < at {
+        return at;
+    }
+    write_number(n, after, out, at)
 }
