@@ -1,7 +1,6 @@
 // The texels of the IA8 format, as a table, whose rule is proved once, over all of its entries.
 ghost use mathlib.Core.Path.{_≡_};
 ghost use mathlib.Core.List.{[], _∷_};
-ghost use Rattle.rules.specs.Texdec.{ia8Texel};
 ghost use Rattle.texdec.specs.Ia8.{channels, Ia8Table};
 
 // The four channels of each byte, red in the lowest eight bits and alpha in the highest.
@@ -288,12 +287,4 @@ pub fn ia8_table() -> [u32; 256]
     ensures { λ r. ⌜ Ia8Table r ⌝ }
 {
     IA8
-}
-
-// The IA8 texel of a byte: the high nibble is the intensity, the low one the alpha, each repeated.
-pub fn decode_ia8(byte: u8) -> [u8; 4]
-    ensures { λ r. ⌜ r ≡ ia8Texel byte ⌝ }
-{
-    let table = ia8_table();
-    texel_bytes(table[byte as usize])
 }
