@@ -34,6 +34,7 @@ fn scale_of(tile: TileDescriptor, tlut_fmt: u32) -> usize
 // Row y of the lookup or of the plain picture.
 pub(crate) fn row_at(tile: TileDescriptor, tlut_fmt: u32, lookup: bool, y: usize) -> Row
     requires { ⌜ InRange (tileOf tile) ⌝ }
+    requires { ⌜ y < 4294967296 ⌝ }
     ensures { λ r. ⌜ r ≡ rowAt lookup (tileOf tile) «tlut_fmt» y ⌝ }
     ensures { λ r. ⌜ RowBounds r ⌝ }
 {
@@ -46,11 +47,9 @@ pub(crate) fn row_at(tile: TileDescriptor, tlut_fmt: u32, lookup: bool, y: usize
             x_step: 0,
         };
     }
-    let line = tile.line;
-    let stride = line.bytes();
     Row {
         odd: y % 2 == 1,
-        start: y % 256 * stride.0,
+        start: tile.row_start(y as u32),
         scale: scale_of(tile, tlut_fmt),
         first_x: 0,
         x_step: 1,

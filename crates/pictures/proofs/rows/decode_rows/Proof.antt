@@ -64,7 +64,7 @@ loop-holds c =
     )
 
 row-at-requires : tie.Need-row-at-requires Inv-loop μ-loop
-row-at-requires c κs = start (c .before .before) .pre .0 .inside
+row-at-requires c κs = let s = start (c .before .before) in (s .pre .0 .inside, omega (arith, s .pre .0 .short))
 
 mul-o : tie.Need-mul-o Inv-loop μ-loop
 mul-o c = let s = c .before .before .before in omega (arith, ends s (omega arith), start s .good)
