@@ -1,4 +1,4 @@
--- `picture_cases::case::in_buffers`
+-- `picture_cases::case::in_buffers` lends the parts that the case asks for, which fit. Assumes nothing.
 use native.Mathlib.Omega.{arith}
 use lib.ListN.{length-take}
 use borrow.Author.Needs.{needs}
