@@ -53,7 +53,7 @@ fn load_is(r: &[u8], kind: u32, source: &[u8]) -> bool {
 
 // A load of a source of the case's length.
 fn load_case(r: &[u8], kind: u32) -> bool {
-    let mut source = [0u8; 65536];
+    let mut source = io::large_buffer();
     buffers::made(&mut source, record::four(r, 30), 2);
     let long = record::long(r, 34, 65536);
     load_is(r, kind, &source[..long])
@@ -86,10 +86,23 @@ fn picture_is(r: &[u8], kind: u32, out: &mut [u8], trail: &mut [u8]) -> bool {
     answer_is(r, answer, out) & ((kind % 2 == 1) | second_is(r, trail))
 }
 
+// Room for the largest picture and the longest trail. A caller is told the lengths alone.
+fn picture_buffer() -> [u8; 65536]
+    ensures { λ b. ⌜ 65536 ≡ length b ⌝ }
+{
+    [165u8; 65536]
+}
+
+fn trail_buffer() -> [u8; 131072]
+    ensures { λ b. ⌜ 131072 ≡ length b ⌝ }
+{
+    [165u8; 131072]
+}
+
 // A picture and a trail of the case's lengths.
 fn picture_case(r: &[u8], kind: u32) -> bool {
-    let mut out = [165u8; 65536];
-    let mut trail = [165u8; 131072];
+    let mut out = picture_buffer();
+    let mut trail = trail_buffer();
     let long = record::long(r, 38, 65536);
     let told = record::long(r, 42, 131072);
     picture_is(r, kind, &mut out[..long], &mut trail[..told])

@@ -5,6 +5,9 @@ use borrow.Author.Needs.{needs}
 use Rattle.stored_answers.proofs.cases.load_case.Statement.{statement}
 use Rattle.stored_answers.proofs.cases.load_case.Tie as tie
 
+large-buffer-requires : tie.Need-large-buffer-requires
+large-buffer-requires c κs = search needs
+
 slice-aggregate-made : tie.Need-slice-aggregate-made
 slice-aggregate-made c = search needs
 
@@ -33,6 +36,7 @@ pub load-case-spec : {M : Type 1} → statement M
 load-case-spec =
     tie.close
     (tie.spec
+    large-buffer-requires
     slice-aggregate-made
     four-requires
     made-requires
