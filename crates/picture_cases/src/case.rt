@@ -76,7 +76,7 @@ fn part(n: u32, room: usize) -> usize
 
 // One lane into fresh buffers: their weight comes on top of the weight before.
 fn in_buffers(bank: &[u8], n: [u32; 13], lane: u32, before: u32) -> Told {
-    let mut out = [0u8; 65536];
+    let mut out = io::large_buffer();
     let mut seen = [0u8; 120];
     bytes::fill(&mut out);
     bytes::fill(&mut seen);

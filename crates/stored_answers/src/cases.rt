@@ -43,17 +43,20 @@ fn load(r: &[u8], kind: u32, bank: &mut [u8], written: &mut [u8], source: &[u8])
     }
 }
 
-// A load of a source of the case's length.
-fn load_case(r: &[u8], kind: u32) -> bool {
+fn load_is(r: &[u8], kind: u32, source: &[u8]) -> bool {
     let mut bank = bank_of(r);
     let mut written = [0u8; 512];
-    let mut source = [0u8; 65536];
-    let seed = record::four(r, 30);
-    buffers::made(&mut written, seed, 1);
-    buffers::made(&mut source, seed, 2);
-    let long = record::long(r, 34, 65536);
-    let answer = load(r, kind, &mut bank, &mut written, &source[..long]);
+    buffers::made(&mut written, record::four(r, 30), 1);
+    let answer = load(r, kind, &mut bank, &mut written, source);
     answer_is(r, answer, &bank) & second_is(r, &written)
+}
+
+// A load of a source of the case's length.
+fn load_case(r: &[u8], kind: u32) -> bool {
+    let mut source = io::large_buffer();
+    buffers::made(&mut source, record::four(r, 30), 2);
+    let long = record::long(r, 34, 65536);
+    load_is(r, kind, &source[..long])
 }
 
 fn sampling_case(r: &[u8]) -> bool {
@@ -76,17 +79,33 @@ fn picture(r: &[u8], kind: u32, bank: &[u8], out: &mut [u8], trail: &mut [u8]) -
     }
 }
 
-// A picture and a trail of the case's lengths; without a trail no digest of one is stored.
-fn picture_case(r: &[u8], kind: u32) -> bool {
+// Without a trail no digest of one is stored.
+fn picture_is(r: &[u8], kind: u32, out: &mut [u8], trail: &mut [u8]) -> bool {
     let bank = bank_of(r);
-    let mut out = [165u8; 65536];
-    let mut seen = [165u8; 131072];
+    let answer = picture(r, kind, &bank, out, trail);
+    answer_is(r, answer, out) & ((kind % 2 == 1) | second_is(r, trail))
+}
+
+// Room for the largest picture and the longest trail. A caller is told the lengths alone.
+fn picture_buffer() -> [u8; 65536]
+    ensures { λ b. ⌜ 65536 ≡ length b ⌝ }
+{
+    [165u8; 65536]
+}
+
+fn trail_buffer() -> [u8; 131072]
+    ensures { λ b. ⌜ 131072 ≡ length b ⌝ }
+{
+    [165u8; 131072]
+}
+
+// A picture and a trail of the case's lengths.
+fn picture_case(r: &[u8], kind: u32) -> bool {
+    let mut out = picture_buffer();
+    let mut trail = trail_buffer();
     let long = record::long(r, 38, 65536);
     let told = record::long(r, 42, 131072);
-    let whole = &mut out[..long];
-    let trail = &mut seen[..told];
-    let answer = picture(r, kind, &bank, whole, trail);
-    answer_is(r, answer, whole) & ((kind % 2 == 1) | second_is(r, trail))
+    picture_is(r, kind, &mut out[..long], &mut trail[..told])
 }
 
 fn reach_case(r: &[u8]) -> bool {

@@ -1,4 +1,4 @@
--- `stored_answers::step`
+-- `stored_answers::step` takes the first 60 of a record's 64 bytes. Assumes nothing.
 use native.Mathlib.Omega.{arith}
 use lib.ListN.{length-take}
 use borrow.Author.Needs.{needs}

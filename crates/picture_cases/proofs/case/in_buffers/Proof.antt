@@ -1,9 +1,12 @@
--- `picture_cases::case::in_buffers`
+-- `picture_cases::case::in_buffers` lends the parts that the case asks for, which fit. Assumes nothing.
 use native.Mathlib.Omega.{arith}
 use lib.ListN.{length-take}
 use borrow.Author.Needs.{needs}
 use Rattle.picture_cases.proofs.case.in_buffers.Statement.{statement}
 use Rattle.picture_cases.proofs.case.in_buffers.Tie as tie
+
+large-buffer-requires : tie.Need-large-buffer-requires
+large-buffer-requires c κs = search needs
 
 slice-aggregate-fill : tie.Need-slice-aggregate-fill
 slice-aggregate-fill c = search needs
@@ -66,6 +69,7 @@ pub in-buffers-spec : {M : Type 1} → statement M
 in-buffers-spec =
     tie.close
     (tie.spec
+    large-buffer-requires
     slice-aggregate-fill
     fill-requires
     slice-aggregate-fill-2

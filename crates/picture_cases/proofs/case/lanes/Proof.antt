@@ -1,4 +1,4 @@
--- `picture_cases::case::lanes`
+-- `picture_cases::case::lanes` counts its lanes, four at most. Assumes nothing.
 use Prim.Native.Nat.{_≤_, _-_}
 use borrow.Author.Needs.{needs}
 use Rattle.picture_cases.proofs.case.lanes.Statement.{statement}
