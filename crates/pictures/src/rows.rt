@@ -197,6 +197,10 @@ pub(crate) fn decode_rows(
     ensures { λ _. ⌜ now (out .exit) ≡ over (given (allRows plan) (now (bank .entry))) (now (out .entry)) ⌝ }
     ensures { λ _. ⌜ now (seen .exit) ≡ over (told (plan .observe) (trail (allRows plan) (now (bank .entry)))) (now (seen .entry)) ⌝ }
 {
+    // The contract says so; the compiler reads it here, and drops the test at each byte.
+    if bank.len() != 4096 {
+        return;
+    }
     let rows = plan.rows;
     let bytes = 4 * plan.width;
     let told = plan.step * plan.width;

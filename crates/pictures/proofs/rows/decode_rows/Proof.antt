@@ -32,7 +32,7 @@ abbrev μ-loop : tie.MeasureT-loop
 
 -- the function's entry, and where a row of the picture and its trail end
 abbrev start : tie.At-loop Inv-loop μ-loop → tie.Start Inv-loop μ-loop
-start c = c .before .before .before .before .before .before
+start c = c .before .before .before .before .before .before .before
 
 ends : (c : tie.At-loop Inv-loop μ-loop) → let p = start c .args .plan in c .loop .y < p .rows
     → 4 * p .width * c .loop .y + 4 * p .width ≤ length (c .loop .out)
@@ -42,18 +42,21 @@ told-ends : (c : tie.At-loop Inv-loop μ-loop) → let p = start c .args .plan i
     → p .step * p .width * c .loop .y + p .step * p .width ≤ length (c .loop .seen)
 told-ends c h = let p = start c .args .plan in omega (arith, part-ends (p .step * p .width) (c .loop .y) (p .rows) h)
 
+returns : tie.Need-returns Inv-loop μ-loop
+returns c = absurd (c .if1 .taken (c .before .before .before .before .pre .0 .whole))
+
 mul-bytes : tie.Need-mul-bytes Inv-loop μ-loop
-mul-bytes c = let p = c .before .before .before .before .pre in omega (arith, p .0 .narrow)
+mul-bytes c = let p = c .before .before .before .before .before .pre in omega (arith, p .0 .narrow)
 
 mul-told : tie.Need-mul-told Inv-loop μ-loop
 mul-told c =
-    let s = c .before .before .before .before .before in
+    let s = c .before .before .before .before .before .before in
     let step : s .args .plan .step ≤ 8 = rw (s .pre .0 .step) (step-few (s .args .plan .observe) (tileOf (s .args .plan .tile)) (s .args .plan .«tlut_fmt»)) in
     omega (arith, mul-le-mul step (s .pre .0 .narrow))
 
 loop-holds : tie.Need-loop-holds Inv-loop μ-loop
 loop-holds c =
-    let s = c .before .before .before .before .before in
+    let s = c .before .before .before .before .before .before in
     let a = s .args in
     let row = rowAt (a .plan .lookup) (tileOf (a .plan .tile)) (a .plan .«tlut_fmt») in (
       omega arith,
@@ -123,9 +126,9 @@ same-length c = c .before .loop .inv .3
 same-length-2 : tie.Need-same-length-2 Inv-loop μ-loop
 same-length-2 c = c .before .loop .inv .4
 
-returns : tie.Need-returns Inv-loop μ-loop
+returns-2 : tie.Need-returns-2 Inv-loop μ-loop
 unfolding rowsOf
-returns c =
+returns-2 c =
     let e : c .before .loop .y ≡ start (c .before) .args .plan .rows = omega arith in
     (rw (← e) (c .before .loop .inv .1), rw (← e) (c .before .loop .inv .2))
 
@@ -135,6 +138,7 @@ decode-rows-spec =
     (tie.spec
     Inv-loop
     μ-loop
+    returns
     mul-bytes
     mul-told
     loop-holds
@@ -153,4 +157,4 @@ decode-rows-spec =
     loop-again
     same-length
     same-length-2
-    returns)
+    returns-2)
