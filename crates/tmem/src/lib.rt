@@ -1,2 +1,5 @@
-// The loads of texture memory, as tmem.rs has them. Their parts are the crates tmem_bank to tmem_tlut.
+// The loads of texture memory, as tmem.rs has them. The crates tmem_bank and tmem_words have their parts.
 pub mod load;
+mod load_block;
+mod load_tile;
+mod load_tlut;

@@ -1,4 +1,4 @@
-// The bank's type, maps of bits, and the written marks, which mark_in alone updates: that one is for the loads.
+// The bank's type, maps of bits, and the written marks, which mark_at alone updates: that one is for the loads.
 pub mod bank;
 pub mod map;
 pub mod written;

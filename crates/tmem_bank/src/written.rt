@@ -19,10 +19,23 @@ fn mark(w: &mut Written, at: usize)
 }
 
 // The same for a plain map: its contract says nothing of the record.
-pub fn mark_in(map: &mut [u8], at: usize)
+fn mark_in(map: &mut [u8], at: usize)
     requires { ⌜ (at / 8 < length (now map)) × (at % 2 ≡ 0) ⌝ }
     ensures { λ _. ⌜ now (map .exit) ≡ bothMarked (now (map .entry)) at ⌝ }
 {
     let mut w = Written { map };
     mark(&mut w, at)
+}
+
+// The same, after its tests: nothing is marked past the map's end, or at an odd address.
+pub fn mark_at(map: &mut [u8], at: usize)
+    ensures { λ _. ⌜ (at / 8 < length (now (map .entry)) → at % 2 ≡ 0 → now (map .exit) ≡ bothMarked (now (map .entry)) at) ⌝ }
+{
+    if map.len() <= at / 8 {
+        return;
+    }
+    if at % 2 != 0 {
+        return;
+    }
+    mark_in(map, at);
 }

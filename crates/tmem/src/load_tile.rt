@@ -1,0 +1,71 @@
+// A tile load: rows of words, each from its own place of the source.
+ghost use mathlib.Core.Path.{_≡_};
+ghost use Prim.Native.Nat.{_<_, _≤_};
+ghost use lib.ListN.{length};
+ghost use Rattle.rules.specs.Load.{tileRow, tileStores};
+ghost use Rattle.tmem_words.specs.Part.{loadOf, Ranged, Lent, CarriedOut};
+use tmem_words::place::LoadTile;
+use tmem_words::place::image_tile;
+use tmem_words::words::Run;
+use tmem_words::words::write_words;
+
+// The words of a row; it answers its count of stores.
+fn write_tile_row(
+    bank: &mut [u8],
+    written: &mut [u8],
+    src: &[u8],
+    tile: LoadTile,
+    image_siz: u32,
+    words: usize,
+    stride: usize,
+    row: usize,
+) -> u32
+    requires { ⌜ Lent (now bank) (now written) ⌝ }
+    requires { ⌜ Ranged (loadOf tile) ⌝ }
+    requires { ⌜ «image_siz» ≤ 3 ⌝ }
+    requires { ⌜ words ≤ 512 ⌝ }
+    requires { ⌜ stride ≤ 65535 ⌝ }
+    requires { ⌜ row < 1024 ⌝ }
+    ensures { λ _. ⌜ CarriedOut (now (src .entry)) (tileRow (loadOf tile) «image_siz» words stride row) (now (bank .entry)) (now (written .entry)) (now (bank .exit)) (now (written .exit)) ⌝ }
+    ensures { λ r. ⌜ r ≡ length (tileRow (loadOf tile) «image_siz» words stride row) ⌝ }
+{
+    let image = image_tile(tile, image_siz);
+    let columns = 16usize >> image_siz;
+    let place = row * stride;
+    let run = Run {
+        columns,
+        row,
+        dxt: 0,
+        place,
+        advance: 8,
+        replicate: false,
+    };
+    write_words(bank, written, src, image, run, words)
+}
+
+// The rows of a tile; it answers its count of stores.
+pub(crate) fn write_tile_rows(
+    bank: &mut [u8],
+    written: &mut [u8],
+    src: &[u8],
+    tile: LoadTile,
+    image_siz: u32,
+    rows: usize,
+    words: usize,
+    stride: usize,
+) -> u32
+    requires { ⌜ Lent (now bank) (now written) ⌝ }
+    requires { ⌜ Ranged (loadOf tile) ⌝ }
+    requires { ⌜ «image_siz» ≤ 3 ⌝ }
+    requires { ⌜ rows ≤ 1024 ⌝ }
+    requires { ⌜ words ≤ 512 ⌝ }
+    requires { ⌜ stride ≤ 65535 ⌝ }
+    ensures { λ _. ⌜ CarriedOut (now (src .entry)) (tileStores (loadOf tile) «image_siz» rows words stride) (now (bank .entry)) (now (written .entry)) (now (bank .exit)) (now (written .exit)) ⌝ }
+    ensures { λ r. ⌜ r ≡ length (tileStores (loadOf tile) «image_siz» rows words stride) ⌝ }
+{
+    let mut count = 0u32;
+    for row in 0..rows {
+        count = count + write_tile_row(bank, written, src, tile, image_siz, words, stride, row);
+    }
+    count
+}

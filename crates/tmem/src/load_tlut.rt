@@ -1,0 +1,95 @@
+// TLUT loads: the hardware's, which replicates a pair of bytes over a word's lanes, and rows of entries.
+ghost use mathlib.Core.Path.{_≡_};
+ghost use Prim.Native.Nat.{_≤_};
+ghost use lib.ListN.{length};
+ghost use Rattle.rules.specs.Load.{entries, advance, steps, hardwareStores, tlutStores};
+ghost use Rattle.tmem_words.specs.Part.{loadOf, Ranged, Lent, CarriedOut};
+use tmem_words::entries::write_entries;
+use tmem_words::place::LoadTile;
+use tmem_words::words::Run;
+use tmem_words::words::write_words;
+
+// The entries that a step of the hardware's load covers.
+fn tlut_entries(image_siz: u32) -> usize
+    requires { ⌜ «image_siz» ≤ 3 ⌝ }
+    ensures { λ r. ⌜ r ≡ entries «image_siz» ⌝ }
+{
+    if image_siz == 2 {
+        1
+    } else {
+        16usize >> image_siz
+    }
+}
+
+// Its steps, for a count of entries.
+fn tlut_steps(image_siz: u32, count: usize) -> usize
+    requires { ⌜ «image_siz» ≤ 3 ⌝ }
+    requires { ⌜ count ≤ 1024 ⌝ }
+    ensures { λ r. ⌜ r ≡ steps «image_siz» count ⌝ }
+{
+    let pixels = tlut_entries(image_siz);
+    (count + (pixels - 1)) / pixels
+}
+
+// The source bytes that a step advances.
+fn tlut_advance(image_siz: u32) -> usize
+    ensures { λ r. ⌜ r ≡ advance «image_siz» ⌝ }
+{
+    if image_siz == 2 { 2 } else { 8 }
+}
+
+// The hardware's load, a word for each step; it answers its count of stores.
+fn write_tlut_words(
+    bank: &mut [u8],
+    written: &mut [u8],
+    src: &[u8],
+    tile: LoadTile,
+    image_siz: u32,
+    count: usize,
+) -> u32
+    requires { ⌜ Lent (now bank) (now written) ⌝ }
+    requires { ⌜ Ranged (loadOf tile) ⌝ }
+    requires { ⌜ «image_siz» ≤ 3 ⌝ }
+    requires { ⌜ count ≤ 1024 ⌝ }
+    ensures { λ _. ⌜ CarriedOut (now (src .entry)) (hardwareStores (loadOf tile) «image_siz» count) (now (bank .entry)) (now (written .entry)) (now (bank .exit)) (now (written .exit)) ⌝ }
+    ensures { λ r. ⌜ r ≡ length (hardwareStores (loadOf tile) «image_siz» count) ⌝ }
+{
+    let columns = 64usize >> image_siz;
+    let advance = tlut_advance(image_siz);
+    let run = Run {
+        columns,
+        row: 0,
+        dxt: 0,
+        place: 0,
+        advance,
+        replicate: true,
+    };
+    let steps = tlut_steps(image_siz, count);
+    write_words(bank, written, src, tile, run, steps)
+}
+
+// A lookup table: the hardware's load for one row of an image above size 0, rows of entries otherwise.
+pub(crate) fn write_tlut(
+    bank: &mut [u8],
+    written: &mut [u8],
+    src: &[u8],
+    tile: LoadTile,
+    image_siz: u32,
+    count: usize,
+    rows: usize,
+    stride: usize,
+) -> u32
+    requires { ⌜ Lent (now bank) (now written) ⌝ }
+    requires { ⌜ Ranged (loadOf tile) ⌝ }
+    requires { ⌜ «image_siz» ≤ 3 ⌝ }
+    requires { ⌜ count ≤ 1024 ⌝ }
+    requires { ⌜ rows ≤ 1024 ⌝ }
+    requires { ⌜ stride ≤ 65535 ⌝ }
+    ensures { λ _. ⌜ CarriedOut (now (src .entry)) (tlutStores (loadOf tile) «image_siz» count rows stride) (now (bank .entry)) (now (written .entry)) (now (bank .exit)) (now (written .exit)) ⌝ }
+    ensures { λ r. ⌜ r ≡ length (tlutStores (loadOf tile) «image_siz» count rows stride) ⌝ }
+{
+    if (rows == 1) & (0 < image_siz) {
+        return write_tlut_words(bank, written, src, tile, image_siz, count);
+    }
+    write_entries(bank, written, src, tile, count, rows, stride)
+}

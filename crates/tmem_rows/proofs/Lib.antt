@@ -1,2 +1,0 @@
--- Laws of runs of words.
-pub mod Runs

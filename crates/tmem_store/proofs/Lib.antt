@@ -1,3 +1,0 @@
--- Laws of stores and of their places.
-pub mod Carry
-pub mod Indices

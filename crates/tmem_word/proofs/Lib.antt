@@ -1,2 +1,0 @@
--- Laws of a word load.
-pub mod Places
