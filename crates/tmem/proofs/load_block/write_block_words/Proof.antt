@@ -28,7 +28,7 @@ returns c =
     let image = image-ranged (s .args .image-siz) (loadOf (s .args .tile)) (s .pre .1 .0) same in
     let paced = block-paced (s .args .image-siz) (s .args .dxt) (s .pre .1 .1 .1 .0) in
     rw (← block-is (loadOf (s .args .tile)) (s .args .image-siz) (s .args .dxt) (s .args .words) same)
-    (d .write-words .ensures (s .pre .0) image paced (s .pre .1 .1 .1 .1))
+    (d .write-words .ensures .0 (s .pre .0) image paced (s .pre .1 .1 .1 .1))
 
 pub write-block-words-spec : {M : Type 1} → statement M
 write-block-words-spec =
