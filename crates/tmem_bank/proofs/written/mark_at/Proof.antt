@@ -9,7 +9,7 @@ returns : tie.Need-returns
 returns c = ((λ h e. absurd (omega (arith, c .if1 .taken))), λ no. refl)
 
 returns-2 : tie.Need-returns-2
-returns-2 c = ((λ h e. absurd (c .if2 .taken e)), λ no. refl)
+returns-2 c = ((λ h e. absurd (omega (arith, c .if2 .taken))), λ no. refl)
 
 mark-in-requires : tie.Need-mark-in-requires
 mark-in-requires c κs = search needs
