@@ -30,6 +30,7 @@ fn mark_in(map: &mut [u8], at: usize)
 // The same, after its tests: nothing is marked past the map's end, or at an odd address.
 pub fn mark_at(map: &mut [u8], at: usize)
     ensures { λ _. ⌜ (at / 8 < length (now (map .entry)) → at % 2 ≡ 0 → now (map .exit) ≡ bothMarked (now (map .entry)) at) ⌝ }
+    ensures { λ _. ⌜ (((at / 8 < length (now (map .entry))) × (at % 2 ≡ 0) → ⊥) → now (map .exit) ≡ now (map .entry)) ⌝ }
 {
     if map.len() <= at / 8 {
         return;

@@ -118,6 +118,7 @@ pub fn write_entries(
     stride: usize,
 ) -> u32
     ensures { λ r. ⌜ (Lent (now (bank .entry)) (now (written .entry)) → Ranged (loadOf tile) → count ≤ 1024 → rows ≤ 1024 → stride ≤ 65535 → CarriedOut (now (src .entry)) (rowStores (loadOf tile) count rows stride) (now (bank .entry)) (now (written .entry)) (now (bank .exit)) (now (written .exit)) × (r ≡ length (rowStores (loadOf tile) count rows stride))) ⌝ }
+    ensures { λ r. ⌜ ((Lent (now (bank .entry)) (now (written .entry)) × Ranged (loadOf tile) × (count ≤ 1024) × (rows ≤ 1024) × (stride ≤ 65535) → ⊥) → (r ≡ 0) × (now (bank .exit) ≡ now (bank .entry)) × (now (written .exit) ≡ now (written .entry))) ⌝ }
 {
     if outside(bank.len(), written.len(), tile) {
         return 0;

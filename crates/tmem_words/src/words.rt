@@ -115,6 +115,7 @@ pub fn write_words(
     words: usize,
 ) -> u32
     ensures { λ r. ⌜ (Lent (now (bank .entry)) (now (written .entry)) → Ranged (loadOf tile) → Paced run → words ≤ 2048 → CarriedOut (now (src .entry)) (runStores (loadOf tile) run words) (now (bank .entry)) (now (written .entry)) (now (bank .exit)) (now (written .exit)) × (r ≡ length (runStores (loadOf tile) run words))) ⌝ }
+    ensures { λ r. ⌜ ((Lent (now (bank .entry)) (now (written .entry)) × Ranged (loadOf tile) × Paced run × (words ≤ 2048) → ⊥) → (r ≡ 0) × (now (bank .exit) ≡ now (bank .entry)) × (now (written .exit) ≡ now (written .entry))) ⌝ }
 {
     if outside(bank.len(), written.len(), tile) {
         return 0;

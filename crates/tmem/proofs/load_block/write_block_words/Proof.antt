@@ -1,5 +1,6 @@
 -- `tmem::load_block::write_block_words` is a run of words. Assumes nothing.
 use borrow.Author.Needs.{needs}
+use native.Mathlib.Omega.{arith}
 use Rattle.tmem_words.specs.Part.{loadOf}
 use Rattle.tmem.proofs.Runs.{image-ranged, block-paced, block-is}
 use Rattle.tmem.proofs.load_block.write_block_words.Statement.{statement}
@@ -28,7 +29,7 @@ returns c =
     let image = image-ranged (s .args .image-siz) (loadOf (s .args .tile)) (s .pre .1 .0) same in
     let paced = block-paced (s .args .image-siz) (s .args .dxt) (s .pre .1 .1 .1 .0) in
     rw (← block-is (loadOf (s .args .tile)) (s .args .image-siz) (s .args .dxt) (s .args .words) same)
-    (d .write-words .ensures (s .pre .0) image paced (s .pre .1 .1 .1 .1))
+    (d .write-words .ensures .0 (s .pre .0) image paced (omega (arith, s .pre)))
 
 pub write-block-words-spec : {M : Type 1} → statement M
 write-block-words-spec =

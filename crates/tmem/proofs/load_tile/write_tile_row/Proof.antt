@@ -36,7 +36,7 @@ returns c =
     let image = image-ranged (s .args .image-siz) (loadOf (s .args .tile)) (s .pre .1 .0) same in
     let paced = row-paced (s .args .image-siz) (s .args .stride) (s .args .row) (p .1 .0) (p .1 .1) in
     rw (← row-is (loadOf (s .args .tile)) (s .args .image-siz) (s .args .words) (s .args .stride) (s .args .row) same)
-    (d .write-words .ensures (s .pre .0) image paced (omega (arith, p .0)))
+    (d .write-words .ensures .0 (s .pre .0) image paced (omega (arith, p .0)))
 
 pub write-tile-row-spec : {M : Type 1} → statement M
 write-tile-row-spec =

@@ -38,7 +38,7 @@ returns-2 c =
     let a = s .args in
     let p = s .pre .1 in
     rw (rows-are (loadOf (a .tile)) (a .image-siz) (a .count) (a .rows) (a .stride) (i .if1 .left))
-    (d .write-entries .ensures (s .pre .0) (p .0) (p .1 .1 .0) (p .1 .1 .1 .0) (p .1 .1 .1 .1))
+    (d .write-entries .ensures .0 (s .pre .0) (p .0) (p .1 .1 .0) (p .1 .1 .1 .0) (p .1 .1 .1 .1))
 
 pub write-tlut-spec : {M : Type 1} → statement M
 write-tlut-spec =

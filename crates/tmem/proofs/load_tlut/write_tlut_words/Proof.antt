@@ -32,7 +32,7 @@ returns c =
     let n = d .before .before .before in
     let few : n .tlut-steps .result ≤ 1024 = rw (n .tlut-steps .ensures) (steps-within (s .args .image-siz) (s .args .count) (s .pre .1 .1 .0) (s .pre .1 .1 .1)) in
     rw (← tlut-is (loadOf (s .args .tile)) (s .args .image-siz) (s .args .count), ← n .tlut-steps .ensures, ← n .before .tlut-advance .ensures)
-    (d .write-words .ensures (s .pre .0) (s .pre .1 .0) (rw (n .before .tlut-advance .ensures) (tlut-paced (s .args .image-siz))) (omega (arith, few)))
+    (d .write-words .ensures .0 (s .pre .0) (s .pre .1 .0) (rw (n .before .tlut-advance .ensures) (tlut-paced (s .args .image-siz))) (omega (arith, few)))
 
 pub write-tlut-words-spec : {M : Type 1} → statement M
 write-tlut-words-spec =

@@ -35,7 +35,7 @@ returns : tie.Need-returns
 unfolding stored written marks
 returns c =
     let second = c .before .before .before .before in
-    record { bank-is = rw (second .source-byte2 .ensures, second .before .source-byte .ensures); map-is = c .before .before .mark-at .ensures (omega arith) (omega arith) }
+    record { bank-is = rw (second .source-byte2 .ensures, second .before .source-byte .ensures); map-is = c .before .before .mark-at .ensures .0 (omega arith) (omega arith) }
 
 pub store-halfword-spec : {M : Type 1} → statement M
 store-halfword-spec =
