@@ -1,4 +1,4 @@
--- A mark is a store of a byte, and so are the two marks of a halfword.
+-- The two marks of a halfword are one store of a byte.
 use mathlib.Core.Path.{_≡_, refl, sym, _∙_}
 use mathlib.Core.List.{List}
 use Prim.Native.Nat.{ℕ, _+_, _*_, _/_, _%_, _^_, _<_}
@@ -22,13 +22,6 @@ or-assoc = bin-ind (λ n. (b c : ℕ) → bitOr (bitOr n b) c ≡ bitOr n (bitOr
         let l = rw (or-half n b, ih (b / 2) (c / 2)) at (or-step (bitOr n b) c) in
         let r = rw (or-half b c) at (or-step n (bitOr b c)) in
         omega (arith, l, r, or-step n b, or-step b c)
-
--- one mark is one store of a byte
-pub byte-marked : (m : List ℕ) (a : ℕ) → set m (a / 8) (bitOr (getD m (a / 8) 0) (1 * 2 ^ (a % 8) % 256)) ≡ marked m a
-unfolding marked
-byte-marked m a =
-    let k : ℕ = a % 8 in
-    rw (agree-below 8 (λ k. 1 * 2 ^ k % 256) (λ k. 2 ^ k) tt k (omega arith))
 
 -- bits k and k + 1 of a byte, for k even
 two-bits : (k : ℕ) → k < 8 → k % 2 ≡ 0 → 3 * 2 ^ k % 256 ≡ bitOr (2 ^ k) (2 ^ (k + 1))
