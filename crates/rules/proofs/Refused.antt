@@ -9,10 +9,6 @@ use mir.Val.{boolByte}
 use Rattle.rules.specs.Base.{one}
 use Rattle.rules.specs.Refusal.{Test, first, Outcome, zeros, settle, call}
 
-pub first-here : (t : Test) (l : List Test) → t .fails ≡ true → first (t ∷ l) ≡ t .number
-unfolding first
-first-here t l h = rw h
-
 pub first-next : (t : Test) (l : List Test) → t .fails ≡ false → first (t ∷ l) ≡ first l
 unfolding first
 first-next t l h = rw h
