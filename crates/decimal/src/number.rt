@@ -36,6 +36,7 @@ fn write_number(n: u32, after: u8, out: &mut [u8], at: usize) -> usize
 // The same where there is room for the longest number; else nothing is written, and `at` is answered.
 pub fn put_number(n: u32, after: u8, out: &mut [u8], at: usize) -> usize
     ensures { λ r. ⌜ (at + 11 ≤ length (now (out .entry)) → (r ≡ at + length (decimal n ++ (after ∷ []))) × ((r ≤ at + 11) × (now (out .exit) ≡ over (take at (now (out .entry)) ++ (decimal n ++ (after ∷ []))) (now (out .entry))))) ⌝ }
+    ensures { λ r. ⌜ ((at + 11 ≤ length (now (out .entry)) → ⊥) → (r ≡ at) × (now (out .exit) ≡ now (out .entry))) ⌝ }
 {
     if out.len() < 11 {
         return at;

@@ -108,6 +108,7 @@ pub fn note_rows(
     lookup: bool,
 )
     ensures { λ _. ⌜ (length (now (bank .entry)) ≡ 4096 → length (now (seen .entry)) ≡ 4096 → first (pairTests (tileOf tile) tlut lane []) ≡ 0 → now (seen .exit) ≡ noted (now (seen .entry)) (trail (rowsRead lookup (tileOf tile) tlut lane) (now (bank .entry)))) ⌝ }
+    ensures { λ _. ⌜ (((length (now (bank .entry)) ≡ 4096) × (length (now (seen .entry)) ≡ 4096) × (first (pairTests (tileOf tile) tlut lane []) ≡ 0) → ⊥) → now (seen .exit) ≡ now (seen .entry)) ⌝ }
 {
     if bank.len() != 4096 {
         return;

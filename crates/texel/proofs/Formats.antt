@@ -11,14 +11,25 @@ use borrow.Author.Tests.{le-leb, lt-leb, ne-eqb, eq-eqb}
 use Rattle.rules.specs.Base.{mem}
 use Rattle.rules.specs.Tile.{Tile, InRange}
 use Rattle.rules.specs.Texdec.{Format, rgba16, rgba32, ci4, ci8, ci16, ia4, ia8, ia16, i4, i8, unknown, formats, formatOf}
-use Rattle.rules.specs.Picture.{direct, formatReads}
+use Rattle.rules.specs.Picture.{direct, formatReads, readsEach}
 use Rattle.rules.proofs.Computed.{all, computed}
-use Rattle.texel.specs.Steps.{formatAt, kindOf}
+use Rattle.texel.specs.Steps.{formatAt, kindOf, placeBits, kindBits, readsBits}
 
 -- a pair's format stands at 4 times its format and its size
 pub placed : (fmt siz : ℕ) → siz ≤ 3 → formatOf fmt siz ≡ formatAt (4 * fmt + siz)
 unfolding formatOf
 placed fmt siz h = rw (le-leb siz 3 h)
+
+-- the numbers of a tile in range are no more than their lowest bits
+place-ranged : (t : Tile) → InRange t → placeBits t ≡ 4 * t .fmt + t .siz
+place-ranged t i = omega (arith, i .fmt, i .siz)
+
+pub kind-ranged : (t : Tile) (mode : ℕ) → InRange t → kindBits t mode ≡ kindOf t mode
+kind-ranged t mode i = rw (place-ranged t i)
+
+pub reads-ranged : (t : Tile) (mode : ℕ) → InRange t → readsBits t mode ≡ readsEach t mode
+unfolding readsEach
+reads-ranged t mode i = rw (place-ranged t i, placed (t .fmt) (t .siz) (i .siz))
 
 -- what passes at each place of the list but some, and of an unknown format, passes at every other place
 outside : (l : List ℕ) (p : Format → Bool) → T (all 18 (λ k. mem k l || p (formatAt k))) → T (p unknown)

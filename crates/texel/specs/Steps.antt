@@ -2,11 +2,12 @@
 use mathlib.Core.Path.{_≡_}
 use mathlib.Core.Bool.{cond}
 use mathlib.Core.List.{List}
-use Prim.Native.Nat.{ℕ, _+_, _*_, _≤_}
+use Prim.Native.Nat.{ℕ, _+_, _*_, _%_, _≤_}
 use lib.ListN.{length, getD, take}
 use Rattle.rules.specs.Reading.{Reading, given, trail}
 use Rattle.rules.specs.Tile.{Tile}
 use Rattle.rules.specs.Texdec.{Format, formats, unknown, tlut}
+use Rattle.rules.specs.Picture.{formatReads}
 use Rattle.texdec.specs.Palette.{indexPart}
 use Rattle.texel.specs.declared.load.Load.{Load}
 use Rattle.texel.specs.declared.texel.Texel.{Texel}
@@ -18,6 +19,17 @@ formatAt place = getD formats place unknown
 -- the kind of the texels of a tile in a mode
 abbrev pub kindOf : Tile → ℕ → ℕ
 kindOf t mode = cond (tlut mode) (indexPart (t .fmt) (t .siz)) (4 * t .fmt + t .siz)
+
+-- the pair's place by the lowest bits of its numbers, whatever they are
+abbrev pub placeBits : Tile → ℕ
+placeBits t = 4 * (t .fmt % 8) + t .siz % 4
+
+-- the kind and the reads of a texel, with the pair at that place: those of the tile, where it is in range
+abbrev pub kindBits : Tile → ℕ → ℕ
+kindBits t mode = cond (tlut mode) (indexPart (t .fmt) (t .siz)) (placeBits t)
+
+abbrev pub readsBits : Tile → ℕ → ℕ
+readsBits t mode = cond (tlut mode) 3 (formatReads (formatAt (placeBits t)))
 
 -- an address with the byte that stands there
 abbrev pub loadAt : List ℕ → ℕ → Load

@@ -1,16 +1,15 @@
 // The kinds of texels, as numbers. Without a lookup table a pair's number is its place in the rule's list of formats.
 ghost use mathlib.Core.Path.{_≡_};
 ghost use Prim.Native.Nat.{_≤_};
-ghost use Rattle.rules.specs.Tile.{InRange};
-ghost use Rattle.rules.specs.Picture.{formatReads, readsEach};
+ghost use Rattle.rules.specs.Picture.{formatReads};
 ghost use Rattle.rdp.specs.View.{tileOf};
-ghost use Rattle.texel.specs.Steps.{formatAt, kindOf};
+ghost use Rattle.texel.specs.Steps.{formatAt, kindBits, readsBits};
 use rdp::tile::TileDescriptor;
 use texdec::palette::index_part;
 
 // The kind of a tile's texels in a mode: with a lookup table the part of a byte that an index is, else the pair's place.
 pub fn kind_of(tile: TileDescriptor, tlut_fmt: u32) -> u32
-    ensures { λ r. ⌜ (InRange (tileOf tile) → r ≡ kindOf (tileOf tile) «tlut_fmt») ⌝ }
+    ensures { λ r. ⌜ r ≡ kindBits (tileOf tile) «tlut_fmt» ⌝ }
 {
     if 2 <= tlut_fmt {
         return index_part(tile.fmt, tile.siz);
@@ -40,7 +39,7 @@ pub(crate) fn format_reads(place: u32) -> usize
 
 // The reads of a texel of a tile in a mode.
 pub fn tile_reads(tile: TileDescriptor, tlut_fmt: u32) -> usize
-    ensures { λ r. ⌜ (InRange (tileOf tile) → r ≡ readsEach (tileOf tile) «tlut_fmt») ⌝ }
+    ensures { λ r. ⌜ r ≡ readsBits (tileOf tile) «tlut_fmt» ⌝ }
     ensures { λ r. ⌜ r ≤ 4 ⌝ }
 {
     if 2 <= tlut_fmt {

@@ -22,7 +22,7 @@ returns c =
     let f = n .before .before in
     let s = f .before .before .before in
     let whole = ap length (s .pre .1 .0) ∙ length-replicate {A = ℕ} 4096 0 in
-    rows-notes _ _ _ _ _ _ _ (f .from-tile .ensures .0) (s .pre .1 .0) (n .note-rows .ensures (s .pre .0) whole (s .pre .1 .1))
+    rows-notes _ _ _ _ _ _ _ (f .from-tile .ensures .0) (s .pre .1 .0) (n .note-rows .ensures .0 (s .pre .0) whole (s .pre .1 .1))
 
 pub note-picture-spec : {M : Type 1} → statement M
 note-picture-spec = tie.close (tie.spec from-tile-requires note-rows-requires same-length returns)

@@ -29,10 +29,10 @@ returns c =
     let r = f .before .before .before .before in
     let s = r .before .before .before in
     let l = s .args .line in
-    let e = r .put-number .ensures (omega arith) in
-    let e2 = f .put-number2 .ensures (omega (arith, e .1 .0)) in
-    let e3 = k .put-number3 .ensures (omega (arith, e .1 .0, e2 .1 .0)) in
-    let e4 = d .put-number4 .ensures (omega (arith, e .1 .0, e2 .1 .0, e3 .1 .0)) in
+    let e = r .put-number .ensures .0 (omega arith) in
+    let e2 = f .put-number2 .ensures .0 (omega (arith, e .1 .0)) in
+    let e3 = k .put-number3 .ensures .0 (omega (arith, e .1 .0, e2 .1 .0)) in
+    let e4 = d .put-number4 .ensures .0 (omega (arith, e .1 .0, e2 .1 .0, e3 .1 .0)) in
     let p =
     line-put (l .refusal) (l .flag) (l .kept) (l .texels) (s .args .out .now) (s .args .at) _ _ _ _ _ _ _ _ (omega arith) (e .0, e .1 .1) (e2 .0, e2 .1 .1) (e3 .0, e3 .1 .1) (e4 .0, e4 .1 .1) in
     (p .0, (omega (arith, e .1 .0, e2 .1 .0, e3 .1 .0, e4 .1 .0), p .1))

@@ -1,9 +1,11 @@
 -- `pictures::decode::decode_picture` answers and leaves what the call's outcome says: refused, or the rows written and their reads counted.
 use Rattle.pictures.proofs.Outcomes.{refused, done}
 use Rattle.pictures.proofs.Within.{Allowed, allowed, ready}
+use Rattle.texel.proofs.Formats.{kind-ranged, reads-ranged}
 use Rattle.pictures.specs.Asked.{testsBy}
 use Rattle.rdp.specs.View.{tileOf}
 use Rattle.rules.specs.Refusal.{first}
+use Rattle.rules.specs.Picture.{readsEach}
 use native.Mathlib.Omega.{arith}
 use native.Mathlib.Nat.{mul-le-mul}
 use Prim.Native.Nat.{_*_, _≤_}
@@ -20,6 +22,11 @@ none c = sym (c .before .first-refusal .ensures) ∙ c .if1 .left
 may : (c : tie.Else1) → let a = c .before .before .before .before .before .before .before .args in
     Allowed (a .observe) (a .lookup) (a .bank .now) (tileOf (a .tile)) (a .«tlut-fmt») (a .lane) (a .out .now) (a .seen .now)
 may c = allowed _ _ _ _ _ _ _ _ (none c)
+
+-- the reads of a texel are the rule's
+each : (c : tie.After-texel-count) → let a = c .before .before .before .before .before .before .before .before .before .args in
+    c .before .tile-reads .result ≡ readsEach (tileOf (a .tile)) (a .«tlut-fmt»)
+each c = c .before .tile-reads .ensures .0 ∙ reads-ranged _ _ (may (c .before .before) .early .tile)
 
 few : (c : tie.After-texel-count) → c .before .tile-reads .result * c .texel-count .result ≤ 4194304
 few c = mul-le-mul (c .before .tile-reads .ensures .1) (c .texel-count .ensures .1)
@@ -60,11 +67,12 @@ decode-rows-requires : tie.Need-decode-rows-requires
 decode-rows-requires c κs =
     let l = c .before .before .before .before .before in
     let w = may (l .before .before .before) in
+    let a = l .before .before .before .before .before .before .before .before .before .before .args in
     let inside = w .early .tile in
-    let each = l .before .before .tile-reads .ensures .0 inside in
+    let reads = each (l .before) in
     rw (l .plan-of .ensures) (
-      ready _ _ _ _ _ _ _ _ _ _ _ w (c .before .before .before .before .texel-table .ensures inside) (c .before .before .before .kind-of .ensures inside) each,
-      (w .room, rw each (w .trail-room)),
+      ready _ _ _ _ _ _ _ _ _ _ _ w (c .before .before .before .before .texel-table .ensures inside) (c .before .before .before .kind-of .ensures ∙ kind-ranged _ (a .«tlut-fmt») inside) reads,
+      (w .room, rw reads (w .trail-room)),
     )
 
 cast-t28 : tie.Need-cast-t28
@@ -83,7 +91,7 @@ returns-2 c =
     let n = l .before in
     let a = n .before .before .before .before .before .before .before .before .before .args in
     done (a .lookup) (a .bank .now) (tileOf (a .tile)) (a .«tlut-fmt») (a .lane) (a .out .now) (a .seen .now) (a .observe) _ _ _ (none (n .before .before))
-    (rw (n .before .tile-reads .ensures .0 (may (n .before .before) .early .tile), n .texel-count .ensures .0))
+    (rw (each n, n .texel-count .ensures .0))
     (rw (l .plan-of .ensures) at (d .decode-rows .ensures .0))
     (rw (l .plan-of .ensures) at (d .decode-rows .ensures .1))
 

@@ -1,6 +1,7 @@
 -- `pictures::refused::first_refusal` is the first refusal: an early one, or what the tests of the buffers say. Assumes nothing.
 use Rattle.pictures.proofs.Within.{early}
 use Rattle.pictures.proofs.Refusals.{refusal-early, refusal-late}
+use Rattle.texel.proofs.Formats.{reads-ranged}
 use Rattle.rules.specs.Tile.{InRange}
 use Rattle.pictures.specs.Asked.{earlyTests}
 use Rattle.rdp.specs.View.{tileOf}
@@ -56,7 +57,7 @@ returns-2 c =
     let r = c .before .before .before in
     let a = r .before .before .before .before .before .before .before .args in
     rw (c .refuse3 .ensures, c .before .refuse2 .ensures, c .before .before .refuse .ensures)
-    (refusal-late (a .observe) (a .lookup) (a .bank .now) (tileOf (a .tile)) (a .«tlut-fmt») (a .lane) (a .out .now) (a .seen .now) _ _ (none (r .before .before)) (r .before .texel-count .ensures .0) (r .tile-reads .ensures .0 (tiled (r .before .before))))
+    (refusal-late (a .observe) (a .lookup) (a .bank .now) (tileOf (a .tile)) (a .«tlut-fmt») (a .lane) (a .out .now) (a .seen .now) _ _ (none (r .before .before)) (r .before .texel-count .ensures .0) (r .tile-reads .ensures .0 ∙ reads-ranged _ _ (tiled (r .before .before))))
 
 pub first-refusal-spec : {M : Type 1} → statement M
 first-refusal-spec =

@@ -1,8 +1,5 @@
 -- `texel::format::kind_of` is the kind, by the same test. Assumes nothing.
 use borrow.Author.Tests.{le-leb, lt-leb}
-use native.Mathlib.Omega.{arith}
-use Prim.Native.Nat.{_%_}
-use mathlib.Core.Path.{_≡_}
 use borrow.Author.Needs.{needs}
 use Rattle.texel.proofs.format.kind_of.Statement.{statement}
 use Rattle.texel.proofs.format.kind_of.Tie as tie
@@ -11,7 +8,7 @@ index-part-requires : tie.Need-index-part-requires
 index-part-requires c κs = search needs
 
 returns : tie.Need-returns
-returns c inside = rw (le-leb _ _ (c .before .if1 .taken)) (c .index-part .ensures)
+returns c = rw (le-leb _ _ (c .before .if1 .taken)) (c .index-part .ensures)
 
 mul-result : tie.Need-mul-result
 mul-result c = search needs
@@ -20,11 +17,7 @@ add-result : tie.Need-add-result
 add-result c = search needs
 
 returns-2 : tie.Need-returns-2
-returns-2 c inside =
-    let a = c .before .before .before .args .tile in
-    let fmt : a .fmt % 8 ≡ a .fmt = omega (arith, inside .fmt) in
-    let siz : a .siz % 4 ≡ a .siz = omega (arith, inside .siz) in
-    rw (lt-leb _ _ (c .before .before .if1 .left), fmt, siz)
+returns-2 c = rw (lt-leb _ _ (c .before .before .if1 .left))
 
 pub kind-of-spec : {M : Type 1} → statement M
 kind-of-spec = tie.close (tie.spec index-part-requires returns mul-result add-result returns-2)

@@ -1,7 +1,7 @@
--- `texel::format::tile_reads` is the rule's count, of the tile's format. Assumes nothing.
-use Rattle.texel.proofs.Formats.{placed, format-few}
+-- `texel::format::tile_reads` is the count of the tile's kind. Assumes nothing.
+use Rattle.texel.proofs.Formats.{format-few}
 use Rattle.texel.specs.Steps.{formatAt}
-use Rattle.rules.specs.Picture.{readsEach, formatReads}
+use Rattle.rules.specs.Picture.{formatReads}
 use borrow.Author.Tests.{le-leb, lt-leb}
 use native.Mathlib.Omega.{arith}
 use mathlib.Core.Path.{_∙_, ap}
@@ -10,8 +10,7 @@ use Rattle.texel.proofs.format.tile_reads.Statement.{statement}
 use Rattle.texel.proofs.format.tile_reads.Tie as tie
 
 returns : tie.Need-returns
-unfolding readsEach
-returns c = ((λ inside. rw (le-leb _ _ (c .if1 .taken))), omega arith)
+returns c = (rw (le-leb _ _ (c .if1 .taken)), omega arith)
 
 kind-of-requires : tie.Need-kind-of-requires
 kind-of-requires c κs = search needs
@@ -20,12 +19,10 @@ format-reads-requires : tie.Need-format-reads-requires
 format-reads-requires c κs = search needs
 
 returns-2 : tie.Need-returns-2
-unfolding readsEach
 returns-2 c =
     let s = c .before .before in
-    let a = s .before .args in
-    let few = lt-leb 2 (a .«tlut-fmt») (s .if1 .left) in (
-      (λ inside. rw (few, placed _ _ (inside .siz)) (c .format-reads .ensures ∙ ap (λ n. formatReads (formatAt n)) (rw few at (c .before .kind-of .ensures inside)))),
+    let few = lt-leb 2 (s .before .args .«tlut-fmt») (s .if1 .left) in (
+      rw few (c .format-reads .ensures ∙ ap (λ n. formatReads (formatAt n)) (rw few at (c .before .kind-of .ensures))),
       rw (c .format-reads .ensures) (format-few (formatAt (c .before .kind-of .result))),
     )
 
