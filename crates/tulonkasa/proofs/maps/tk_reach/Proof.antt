@@ -1,7 +1,7 @@
--- `tulonkasa::tk_reach` answers what the call below it does, for the tile of its numbers. Assumes nothing.
+-- `tulonkasa::maps::tk_reach` answers what the call below it does, for the tile of its numbers. Assumes nothing.
 use borrow.Author.Needs.{needs}
-use Rattle.tulonkasa.proofs.tk_reach.Statement.{statement}
-use Rattle.tulonkasa.proofs.tk_reach.Tie as tie
+use Rattle.tulonkasa.proofs.maps.tk_reach.Statement.{statement}
+use Rattle.tulonkasa.proofs.maps.tk_reach.Tie as tie
 
 tile-from-requires : tie.Need-tile-from-requires
 tile-from-requires c κs = search needs

@@ -1,7 +1,7 @@
--- `tulonkasa::tk_tile_has_load` answers what the call below it does, for the tile of its numbers. Assumes nothing.
+-- `tulonkasa::maps::tk_tile_has_load` answers what the call below it does, for the tile of its numbers. Assumes nothing.
 use borrow.Author.Needs.{needs}
-use Rattle.tulonkasa.proofs.tk_tile_has_load.Statement.{statement}
-use Rattle.tulonkasa.proofs.tk_tile_has_load.Tie as tie
+use Rattle.tulonkasa.proofs.maps.tk_tile_has_load.Statement.{statement}
+use Rattle.tulonkasa.proofs.maps.tk_tile_has_load.Tie as tie
 
 tile-from-requires : tie.Need-tile-from-requires
 tile-from-requires c κs = search needs

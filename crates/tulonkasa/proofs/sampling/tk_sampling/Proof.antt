@@ -1,7 +1,7 @@
--- `tulonkasa::tk_sampling` answers what the call below it does, for the tile of its numbers. Assumes nothing.
+-- `tulonkasa::sampling::tk_sampling` answers what the call below it does, for the tile of its numbers. Assumes nothing.
 use borrow.Author.Needs.{needs}
-use Rattle.tulonkasa.proofs.tk_sampling.Statement.{statement}
-use Rattle.tulonkasa.proofs.tk_sampling.Tie as tie
+use Rattle.tulonkasa.proofs.sampling.tk_sampling.Statement.{statement}
+use Rattle.tulonkasa.proofs.sampling.tk_sampling.Tie as tie
 
 tile-from-requires : tie.Need-tile-from-requires
 tile-from-requires c κs = search needs

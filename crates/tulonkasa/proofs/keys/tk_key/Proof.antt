@@ -1,7 +1,7 @@
--- `tulonkasa::tk_key` answers what the call below it does, for the tile of its numbers. Assumes nothing.
+-- `tulonkasa::keys::tk_key` answers what the call below it does, for the tile of its numbers. Assumes nothing.
 use borrow.Author.Needs.{needs}
-use Rattle.tulonkasa.proofs.tk_key.Statement.{statement}
-use Rattle.tulonkasa.proofs.tk_key.Tie as tie
+use Rattle.tulonkasa.proofs.keys.tk_key.Statement.{statement}
+use Rattle.tulonkasa.proofs.keys.tk_key.Tie as tie
 
 tile-from-requires : tie.Need-tile-from-requires
 tile-from-requires c κs = search needs
