@@ -1,4 +1,4 @@
-// The bank's type, maps of bits, and the written marks, which mark_at alone updates: that one is for the loads.
+// The bank's type, and the written marks, a map of bits that `mark_at` alone updates: that one is for the loads.
 pub mod bank;
-pub mod map;
+mod map;
 pub mod written;
