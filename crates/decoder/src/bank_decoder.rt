@@ -1,8 +1,8 @@
 // A decoder that refers to the lent bank, and the function above it: its contract says nothing of a decoder.
 ghost use mathlib.Core.Path.{_≡_};
 ghost use Rattle.rdp.specs.View.{tileOf, answered};
-ghost use Rattle.pictures.specs.Asked.{outcomeBy, buffersBy};
-use pictures::decode::decode_picture;
+ghost use Rattle.decoder.specs.Asked.{outcomeBy, buffersBy};
+use crate::decode::decode_picture;
 use rdp::answer::Answer;
 use rdp::tile::TileDescriptor;
 

@@ -11,12 +11,11 @@ use Rattle.rules.specs.Base.{mem}
 use Rattle.rules.specs.Tile.{Tile}
 use Rattle.rules.specs.Reading.{Reading, trail, upTo}
 use Rattle.rules.specs.Sampling.{flag}
-use Rattle.key_reads.specs.Rows.{rowsRead}
 use Rattle.rules.specs.Picture.{texel, column, rowStart, plainRow, plain, lookup, picture}
 use Rattle.rules.specs.Key.{noted, Notes}
 use Rattle.rules.proofs.Readings.{trail-then}
 use Rattle.rules.proofs.Tables.{mem-append}
-use Rattle.key_reads.proofs.Notes.{notes-of, notes-same}
+use Rattle.key.proofs.Notes.{notes-of, notes-same}
 
 mem-more : (f : ℕ → Reading) (b : List ℕ) (n a : ℕ) → mem a (trail (upTo (suc n) f) b) ≡ (mem a (trail (upTo n f) b) || mem a (trail (f n) b))
 unfolding upTo
@@ -65,9 +64,12 @@ unfolding plain
 plain-capped t mode lane b a = capped (plainRow t mode lane) b (row-period t mode lane) (t .height) a
 
 -- the notes of a lookup, and of a plain picture's first 256 rows, are those of the picture that the flag calls for
-pub rows-notes : (t : Tile) (mode lane : ℕ) (looked : Bool) (b s u : List ℕ) → looked ≡ flag t mode → s ≡ replicate 4096 0
-    → u ≡ noted s (trail (rowsRead looked t mode lane) b) → Notes u (trail (picture t mode lane) b)
-unfolding picture
-rows-notes t mode lane true b s u f z e = rw (picture, ← f, e, z) (notes-of (trail (lookup t mode lane) b))
-rows-notes t mode lane false b s u f z e =
-    rw (picture, ← f, e, z) (notes-same _ _ _ (plain-capped t mode lane b) (notes-of (trail (upTo (min (t .height) 256) (plainRow t mode lane)) b)))
+module _ (t : Tile) (mode lane : ℕ) (b s u : List ℕ) (z : s ≡ replicate 4096 0) where
+  pub lookup-notes : flag t mode ≡ true → u ≡ noted s (trail (lookup t mode lane) b) → Notes u (trail (picture t mode lane) b)
+  unfolding picture
+  lookup-notes f e = rw (picture, f, e, z) (notes-of (trail (lookup t mode lane) b))
+
+  pub plain-notes : flag t mode ≡ false → u ≡ noted s (trail (upTo (min (t .height) 256) (plainRow t mode lane)) b) → Notes u (trail (picture t mode lane) b)
+  unfolding picture
+  plain-notes f e =
+      rw (picture, f, e, z) (notes-same _ _ _ (plain-capped t mode lane b) (notes-of (trail (upTo (min (t .height) 256) (plainRow t mode lane)) b)))

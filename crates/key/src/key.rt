@@ -10,7 +10,8 @@ ghost use Rattle.rules.specs.Key.{key, keptCount, Notes};
 ghost use Rattle.rdp.specs.View.{tileOf, answered};
 use crate::cut::cut;
 use crate::cut::empty_key;
-use key_reads::rows::note_rows;
+use crate::rows::note_lookup;
+use crate::rows::note_plain;
 use rdp::answer::Answer;
 use rdp::refusal;
 use rdp::tile::TileDescriptor;
@@ -38,7 +39,11 @@ fn note_picture(bank: &[u8], seen: &mut [u8], tile: TileDescriptor, tlut: u32, l
     ensures { λ _. ⌜ Notes (now (seen .exit)) (trail (picture (tileOf tile) tlut lane) (now (bank .entry))) ⌝ }
 {
     let sampling = TileSampling::from_tile(tile, tlut);
-    note_rows(bank, seen, tile, tlut, lane, sampling.lookup);
+    if sampling.lookup {
+        note_lookup(bank, seen, tile, tlut, lane);
+        return;
+    }
+    note_plain(bank, seen, tile, tlut, lane);
 }
 
 // The key of that picture, and its kept count.

@@ -10,9 +10,7 @@ use lib.ListN.{length, replicate}
 use Rattle.rules.specs.Base.{tab, tabFrom, concat, marks}
 use Rattle.rules.specs.Reach.{uneven, unevenSlots, laneMap}
 use Rattle.rules.proofs.Tables.{tab-more, length-tab}
-use Rattle.map_words.specs.Words.{joined}
-use Rattle.map_words.proofs.Bytes.{joined-none, joined-more, marked-word}
-use Rattle.map_words.proofs.Words.{part-marks}
+use Rattle.rules.proofs.Bits.{joined, joined-none, joined-more, marked-word, part-marks}
 use Rattle.lane_check.specs.Slots.{slotBit, slotsByte}
 
 -- the rule's list of slot j

@@ -3,7 +3,7 @@ use mathlib.Core.Bool.{cond}
 use mathlib.Core.List.{List}
 use Prim.Native.Nat.{ℕ, _+_, _*_, _%_, _^_}
 use Rattle.rules.specs.Reach.{slotByte, uneven}
-use Rattle.map_words.specs.Words.{ors}
+use Rattle.rules.proofs.Bits.{ors}
 
 -- a pair of bytes, the first one lowest
 abbrev pub pairNumber : List ℕ → ℕ → ℕ → ℕ

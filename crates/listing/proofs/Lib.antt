@@ -1,4 +1,5 @@
 -- Laws of this crate that belong to no one function.
+pub mod Lines
 pub mod Listed
 pub mod Parts
 pub mod Pieces

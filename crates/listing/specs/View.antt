@@ -1,11 +1,21 @@
--- What a buffer has room for, and the texts of records.
+-- The declared line as the rules have it, which gives no field a meaning; what a buffer has room for; the texts of records.
 use mathlib.Core.Bool.{cond}
-use mathlib.Core.List.{List, []}
+use mathlib.Core.List.{List, [], _∷_}
 use Prim.Native.Nat.{ℕ}
 use lib.Dec.{ltb}
 use lib.ListN.{length}
 use Rattle.rules.specs.Base.{tab, concat}
+use Rattle.rules.specs.Refusal.{Outcome}
 use Rattle.rules.specs.Lister.{recordAt, recordLine, lineText}
+use Rattle.listing.specs.declared.line.Line.{Line}
+
+-- a line's answer
+abbrev pub lineAnswered : Line → Outcome
+lineAnswered l = record { refusal = l .refusal; numbers = l .flag ∷ l .kept ∷ l .texels ∷ []; buffers = [] }
+
+-- a line's four numbers, in their order
+abbrev pub numbersOf : Line → List ℕ
+numbersOf l = l .refusal ∷ l .flag ∷ l .kept ∷ l .texels ∷ []
 
 -- what is written of a text into a buffer: all of it, or nothing where the buffer has less room than was asked for
 abbrev pub fitted : ℕ → List ℕ → List ℕ → List ℕ

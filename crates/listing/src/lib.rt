@@ -1,3 +1,4 @@
-// The lister's text: a line as text, and the text of an input.
+// The lister's text: a record's line as numbers and as text, and the text of an input.
+mod line;
 pub mod list;
-pub mod text;
+mod text;

@@ -6,10 +6,10 @@ ghost use lib.ListN.{length, take};
 ghost use Rattle.rules.specs.Base.{over};
 ghost use Rattle.rules.specs.Lister.{listing};
 ghost use Rattle.listing.specs.View.{recordText, recordTexts, fitted};
+use crate::line::Line;
+use crate::line::record_line;
 use crate::text::put_line;
 use rdp::refusal;
-use record_line::line::Line;
-use record_line::line::record_line;
 
 // The line of record i, from `at` on. The new end is answered.
 fn put_record(input: &[u8], i: usize, out: &mut [u8], at: usize) -> usize

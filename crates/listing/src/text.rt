@@ -4,12 +4,10 @@ ghost use mathlib.Core.List.{_++_};
 ghost use Prim.Native.Nat.{_+_, _≤_};
 ghost use lib.ListN.{length, take};
 ghost use Rattle.rules.specs.Base.{over};
-ghost use Rattle.rules.specs.Lister.{lineText, recordLine};
-ghost use Rattle.record_line.specs.View.{numbersOf};
-ghost use Rattle.listing.specs.View.{fitted};
+ghost use Rattle.rules.specs.Lister.{lineText};
+ghost use Rattle.listing.specs.View.{numbersOf};
+use crate::line::Line;
 use decimal::number::put_number;
-use record_line::line::Line;
-use record_line::line::record_line;
 
 // A line's text from `at` on. The new end is answered.
 pub(crate) fn put_line(line: Line, out: &mut [u8], at: usize) -> usize
@@ -22,16 +20,4 @@ pub(crate) fn put_line(line: Line, out: &mut [u8], at: usize) -> usize
     let flag = put_number(line.flag, 32, out, refusal);
     let kept = put_number(line.kept, 32, out, flag);
     put_number(line.texels, 10, out, kept)
-}
-
-// The text of a record's line at the front of `out`, and its length. A buffer of fewer than 44 bytes is left as it was
-// lent, and 0 is answered.
-pub fn line_text(bytes: &[u8], out: &mut [u8]) -> usize
-    ensures { λ r. ⌜ r ≡ length (fitted 44 (lineText (recordLine (now (bytes .entry)))) (now (out .entry))) ⌝ }
-    ensures { λ _. ⌜ now (out .exit) ≡ over (fitted 44 (lineText (recordLine (now (bytes .entry)))) (now (out .entry))) (now (out .entry)) ⌝ }
-{
-    if out.len() < 44 {
-        return 0;
-    }
-    put_line(record_line(bytes), out, 0)
 }

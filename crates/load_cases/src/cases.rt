@@ -6,10 +6,10 @@ use rdp::answer::Answer;
 use rdp::tile::TileDescriptor;
 use rdp::units::LineWords;
 use rdp::units::WordAddr;
+use tmem::bank::Bank;
 use tmem::load::write_block_for_tile;
 use tmem::load::write_tile_for_tile;
 use tmem::load::write_tlut_for_tile;
-use tmem_bank::bank::Bank;
 
 // A tile of the fields that a load takes. The others are outside their ranges: no load takes them.
 fn tile(r: &[u8]) -> TileDescriptor {

@@ -14,9 +14,10 @@ use Rattle.rules.specs.Sampling.{isRgba32}
 use Rattle.rules.specs.Picture.{address, swapOdd}
 use Rattle.rules.specs.Reach.{modulus, xStep, xCount, doubled, rowBytes, reachAt, reachRow, reachWhole}
 use Rattle.rules.proofs.Computed.{agree-below}
-use Rattle.map_words.specs.Words.{ors, twin, wordJoined, wordMeets}
-use Rattle.map_words.proofs.Joined.{found-longer}
-use Rattle.map_words.proofs.Words.{word-marks, word-any}
+use Rattle.rules.proofs.Bits.{ors}
+use Rattle.reach.specs.Words.{twin, wordJoined, wordMeets}
+use Rattle.reach.proofs.Joined.{found-longer}
+use Rattle.reach.proofs.Words.{word-marks, word-any}
 use Rattle.reach.specs.declared.span.Span.{Span}
 use Rattle.reach.specs.Span.{Bounds, stepOf, placesIn, reachedAt, reached, wordIn, bitsIn, inHalves}
 use Rattle.reach.proofs.Axes.{row-bytes-le}

@@ -6,7 +6,8 @@ use Prim.Native.Nat.{ℕ, _+_, _*_, _-_, _/_, _%_, _^_, _≤_, min}
 use lib.Bits.{bitOr}
 use Rattle.rules.specs.Base.{tab, concat}
 use Rattle.rules.specs.Picture.{address, swapOdd}
-use Rattle.map_words.specs.Words.{ors, twin}
+use Rattle.rules.proofs.Bits.{ors}
+use Rattle.reach.specs.Words.{twin}
 use Rattle.reach.specs.declared.span.Span.{Span}
 
 -- the step from one place to the next

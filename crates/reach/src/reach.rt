@@ -10,9 +10,9 @@ ghost use Rattle.rules.specs.Tile.{InRange};
 ghost use Rattle.reach.specs.Span.{Bounds, reached};
 use crate::extent;
 use crate::fresh;
+use crate::refused;
 use crate::span::Span;
 use crate::word;
-use map_words::refused;
 use rdp::tile::TileDescriptor;
 use tile_sampling::sampling::TileSampling;
 

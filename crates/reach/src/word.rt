@@ -3,7 +3,8 @@ ghost use mathlib.Core.Bool.{true};
 ghost use mathlib.Core.Path.{_≡_};
 ghost use Prim.Native.Nat.{_<_};
 ghost use lib.ListN.{length};
-ghost use Rattle.map_words.specs.Words.{joined, meets, wordJoined, wordMeets};
+ghost use Rattle.rules.proofs.Bits.{joined};
+ghost use Rattle.reach.specs.Words.{meets, wordJoined, wordMeets};
 
 // The bits are set in byte `at`.
 fn join(map: &mut [u8], at: usize, bits: u8)

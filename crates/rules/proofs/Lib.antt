@@ -6,6 +6,7 @@ pub mod Keys
 pub mod Over
 pub mod Parts
 pub mod Maps
+pub mod Bits
 pub mod Loads
 pub mod Swaps
 pub mod Rows

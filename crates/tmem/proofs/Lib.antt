@@ -1,4 +1,10 @@
--- What a load that is not refused may count on, and the loads as runs of words.
-pub mod Within
+-- Laws of the written marks; of stores and of their places, of a word load, of runs of words, and of rows of entries; what a load that
+-- is not refused may count on, and the loads as runs of words.
+pub mod Again
+pub mod Halfwords
+pub mod Carry
+pub mod Indices
+pub mod Places
+pub mod Rows
 pub mod Runs
-pub mod Steps
+pub mod Within

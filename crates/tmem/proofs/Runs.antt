@@ -1,18 +1,41 @@
--- The rules' lists of a block and a tile's row as runs of words.
-use mathlib.Core.Path.{_≡_}
-use mathlib.Core.Bool.{false}
-use Prim.Native.Nat.{ℕ, _*_, _/_, _^_, _<_, _≤_}
-use native.Mathlib.Nat.{zero-add, add-zero, mul-zero, mul-comm, div-le-self}
+-- Runs of words: bounds of a word's numbers, and the rules' lists of a block, a tile's row and a hardware TLUT as runs; which of a TLUT's
+-- lists is taken.
+use mathlib.Core.Path.{_≡_, ap}
+use mathlib.Core.List.{List}
+use mathlib.Core.Bool.{false, Bool, true, cond, _&&_}
+use Prim.Native.Nat.{ℕ, _*_, _<_, _≤_, _/_, _^_}
+use native.Mathlib.Nat.{mul-le-mul, zero-add, add-zero, mul-zero, mul-comm, div-le-self, div-le-of-le-mul}
 use native.Mathlib.Omega.{arith}
 use lib.ListN.{length}
-use Rattle.rules.specs.Load.{LoadTile, imageTile, blockStores, tileRow}
-use Rattle.tmem_words.specs.declared.words.Run.{Run}
-use Rattle.tmem_words.specs.Part.{Ranged}
-use Rattle.tmem_words.specs.Run.{Paced, runStores}
-use Rattle.tmem_words.proofs.Carry.{table-length}
-use Rattle.tmem_words.proofs.Indices.{product-within}
-use Rattle.tmem_words.proofs.Places.{word-length}
-use Rattle.tmem_words.proofs.Runs.{same-lists}
+use lib.Dec.{eqb, ltb, leb, leb→le}
+use Rattle.rules.specs.Base.{tab, concat}
+use Rattle.rules.specs.Load.{Store, LoadTile, imageTile, blockStores, tileRow, entries, advance, steps, hardwareStores, rowStores, tlutStores}
+use Rattle.rules.proofs.Computed.{computed}
+use Rattle.tmem.specs.declared.words.Run.{Run}
+use Rattle.tmem.specs.Run.{Paced, runStores}
+use Rattle.tmem.specs.Part.{Ranged}
+use Rattle.tmem.proofs.Indices.{product-within}
+use Rattle.tmem.proofs.Carry.{table-length}
+use Rattle.tmem.proofs.Places.{word-length}
+
+-- the products of word w of a run
+pub record Reached (r : Run) (w : ℕ) : Type 0 where
+  pub column : w * r .columns ≤ 2047 * 64
+  pub turned : w * r .dxt ≤ 2047 * r .dxt
+  pub moved : w * r .advance ≤ 2047 * 8
+
+pub reached : (r : Run) (w : ℕ) → Paced r → w < 2048 → Reached r w
+reached r w p h =
+    let k : w ≤ 2047 = omega arith in
+    record {
+      column = mul-le-mul k (p .columns-in);
+      turned = product-within 2047 (r .dxt) w (r .dxt) k (omega arith);
+      moved = mul-le-mul k (p .advance-in);
+    }
+
+-- two tables whose entries are the same
+pub same-lists : (n : ℕ) {f g : ℕ → List Store} → ((w : ℕ) → f w ≡ g w) → concat (tab n f) ≡ concat (tab n g)
+same-lists n e = ap (λ h. concat (tab n h)) (λ i w. e w i)
 
 pub image-ranged : (image : ℕ) (t : LoadTile) {u : LoadTile} → Ranged t → u ≡ imageTile image t → Ranged u
 image-ranged image t r e = rw e (record { line-in = r .line-in; word-in = r .word-in })
@@ -59,3 +82,48 @@ row-paced image stride row h k =
 pub row-length : (t : LoadTile) (image words stride row : ℕ) → length (tileRow t image words stride row) ≡ words * 8
 unfolding tileRow
 row-length t image words stride row = table-length _ 8 (λ w. word-length _ _ _ _) words
+
+-- "one word load per step at t = 0, s = step·(64 >> image size)"
+abbrev pub tlutRun : ℕ → Run
+tlutRun image = record { columns = 64 / 2 ^ image; row = 0; dxt = 0; place = 0; advance = advance image; replicate = true }
+
+pub tlut-is : (t : LoadTile) (image count : ℕ) → runStores t (tlutRun image) (steps image count) ≡ hardwareStores t image count
+unfolding runStores hardwareStores
+tlut-is t image count = same-lists (steps image count) (λ w. rw (mul-zero w, zero-add (w * advance image)))
+
+pub tlut-paced : (image : ℕ) → Paced (tlutRun image)
+tlut-paced image =
+    record {
+      columns-in = div-le-self 64 (2 ^ image);
+      row-in = omega arith;
+      place-in = omega arith;
+      advance-in = go (eqb image 2);
+    }
+  where
+    go : (b : Bool) → cond b 2 8 ≤ 8
+    go true = omega arith
+    go false = omega arith
+
+-- a step covers an entry at least, so that there are no more steps than entries
+pub step-covers : (image : ℕ) → image ≤ 3 → 1 ≤ entries image
+step-covers image h = leb→le 1 _ (computed 4 (λ m. leb 1 (entries m)) tt image (omega arith))
+
+pub covers-within : (image : ℕ) → image ≤ 3 → entries image ≤ 16
+covers-within image h = leb→le _ 16 (computed 4 (λ m. leb (entries m) 16) tt image (omega arith))
+
+pub steps-within : (image count : ℕ) → image ≤ 3 → count ≤ 1024 → steps image count ≤ 1024
+steps-within image count h k =
+    let e = entries image in
+    let p : 1 ≤ e = step-covers image h in
+    div-le-of-le-mul e (omega arith)
+
+-- "TLUT with rows 1 and image size above 0: .. Otherwise .."
+pub hardware-is : (t : LoadTile) (image count rows stride : ℕ) → (eqb rows 1 && ltb 0 image) ≡ true
+    → tlutStores t image count rows stride ≡ hardwareStores t image count
+unfolding tlutStores
+hardware-is t image count rows stride e = rw e
+
+pub rows-are : (t : LoadTile) (image count rows stride : ℕ) → (eqb rows 1 && ltb 0 image) ≡ false
+    → tlutStores t image count rows stride ≡ rowStores t count rows stride
+unfolding tlutStores
+rows-are t image count rows stride e = rw e

@@ -12,7 +12,7 @@ use Rattle.rules.specs.Load.{Store, loadTile, stored, written}
 use Rattle.rules.specs.Refusal.{Test, first}
 use Rattle.rules.specs.Calls.{loadTests, loaded, blockOutside, tileLoadOutside, tlutOutside}
 use Rattle.rules.proofs.Refused.{Passed, Numbered, passed, refused-is, done-is}
-use Rattle.tmem_words.specs.Part.{Ranged, Lent, CarriedOut}
+use Rattle.tmem.specs.Part.{Ranged, Lent, CarriedOut}
 
 -- of an either that does not hold, neither does
 not-left : (a b : Bool) → (a || b) ≡ false → a ≡ false

@@ -1,5 +1,12 @@
-// The loads of texture memory, as tmem.rs has them. The crates tmem_bank and tmem_words have their parts.
+// Texture memory, as tmem.rs has it: the bank, the written marks, a load's stores, and the loads.
+pub mod bank;
+mod entries;
 pub mod load;
 mod load_block;
 mod load_tile;
 mod load_tlut;
+mod place;
+mod store;
+mod word;
+mod words;
+mod written;

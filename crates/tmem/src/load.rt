@@ -6,14 +6,14 @@ ghost use lib.ListN.{length};
 ghost use Rattle.rules.specs.Refusal.{first};
 ghost use Rattle.rules.specs.Calls.{loadTests, blockCall, tileCall, tlutCall};
 ghost use Rattle.rdp.specs.View.{tileOf, answered};
+use crate::bank::Bank;
 use crate::load_block::write_block_words;
 use crate::load_tile::write_tile_rows;
 use crate::load_tlut::write_tlut;
+use crate::place::load_fields;
 use rdp::answer::Answer;
 use rdp::refusal;
 use rdp::tile::TileDescriptor;
-use tmem_bank::bank::Bank;
-use tmem_words::place::load_fields;
 
 // The first refusal of a load, by the lengths of what it is lent, its tile, and whether its own numbers are `outside` their ranges;
 // 0 is none.

@@ -3,11 +3,11 @@ ghost use mathlib.Core.Path.{_≡_};
 ghost use Prim.Native.Nat.{_<_, _≤_};
 ghost use lib.ListN.{length};
 ghost use Rattle.rules.specs.Load.{tileRow, tileStores};
-ghost use Rattle.tmem_words.specs.Part.{loadOf, Ranged, Lent, CarriedOut};
-use tmem_words::place::LoadTile;
-use tmem_words::place::image_tile;
-use tmem_words::words::Run;
-use tmem_words::words::write_words;
+ghost use Rattle.tmem.specs.Part.{loadOf, Ranged, Lent, CarriedOut};
+use crate::place::LoadTile;
+use crate::place::image_tile;
+use crate::words::Run;
+use crate::words::write_words;
 
 // The words of a row; it answers its count of stores.
 fn write_tile_row(

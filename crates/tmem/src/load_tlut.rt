@@ -3,11 +3,11 @@ ghost use mathlib.Core.Path.{_≡_};
 ghost use Prim.Native.Nat.{_≤_};
 ghost use lib.ListN.{length};
 ghost use Rattle.rules.specs.Load.{entries, advance, steps, hardwareStores, tlutStores};
-ghost use Rattle.tmem_words.specs.Part.{loadOf, Ranged, Lent, CarriedOut};
-use tmem_words::entries::write_entries;
-use tmem_words::place::LoadTile;
-use tmem_words::words::Run;
-use tmem_words::words::write_words;
+ghost use Rattle.tmem.specs.Part.{loadOf, Ranged, Lent, CarriedOut};
+use crate::entries::write_tlut_rows;
+use crate::place::LoadTile;
+use crate::words::Run;
+use crate::words::write_words;
 
 // The entries that a step of the hardware's load covers.
 fn tlut_entries(image_siz: u32) -> usize
@@ -91,5 +91,5 @@ pub(crate) fn write_tlut(
     if (rows == 1) & (0 < image_siz) {
         return write_tlut_words(bank, written, src, tile, image_siz, count);
     }
-    write_entries(bank, written, src, tile, count, rows, stride)
+    write_tlut_rows(bank, written, src, tile, count, rows, stride)
 }

@@ -48,7 +48,7 @@ use Rattle.rdp.proofs.answer.Answer as Ans
 use Rattle.rdp.proofs.answer.Answer.Laws as Ans′
 use Rattle.rdp.proofs.tile.TileDescriptor as Tile
 use Rattle.rdp.proofs.tile.TileDescriptor.Laws as Tile′
-use Rattle.pictures.specs.Asked.{outcomeBy, buffersBy}
+use Rattle.decoder.specs.Asked.{outcomeBy, buffersBy}
 use Rattle.decoder.specs.declared.bank_decoder.BankDecoder.{BankDecoder}
 use Rattle.decoder.proofs.bank_decoder.BankDecoder as T
 use Rattle.decoder.proofs.bank_decoder.BankDecoder.Laws as T′

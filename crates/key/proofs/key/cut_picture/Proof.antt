@@ -4,7 +4,7 @@ use Prim.Native.Nat.{ℕ}
 use lib.ListN.{length, length-replicate}
 use borrow.Author.Needs.{needs}
 use Rattle.rules.specs.Key.{key, keyOf, keptCount}
-use Rattle.key_reads.proofs.Notes.{note-small}
+use Rattle.key.proofs.Notes.{note-small}
 use Rattle.key.proofs.key.cut_picture.Statement.{statement}
 use Rattle.key.proofs.key.cut_picture.Tie as tie
 

@@ -1,8 +1,9 @@
 -- `key::key::note_picture` notes by the flag: a lookup, or the first 256 rows, which read all. Assumes nothing.
-use Rattle.key.proofs.Period.{rows-notes}
+use Rattle.key.proofs.Period.{lookup-notes, plain-notes}
+use Rattle.rules.proofs.Allowed.{allowed}
 use lib.ListN.{length, length-replicate}
 use Prim.Native.Nat.{ℕ}
-use mathlib.Core.Path.{ap, _∙_}
+use mathlib.Core.Path.{_≡_, ap, sym, _∙_}
 use borrow.Author.Needs.{needs}
 use Rattle.key.proofs.key.note_picture.Statement.{statement}
 use Rattle.key.proofs.key.note_picture.Tie as tie
@@ -10,19 +11,45 @@ use Rattle.key.proofs.key.note_picture.Tie as tie
 from-tile-requires : tie.Need-from-tile-requires
 from-tile-requires c κs = search needs
 
-note-rows-requires : tie.Need-note-rows-requires
-note-rows-requires c κs = search needs
+whole : (c : tie.Start) → length (c .args .seen .now) ≡ 4096
+whole c = ap length (c .pre .1 .0) ∙ length-replicate {A = ℕ} 4096 0
+
+note-lookup-requires : tie.Need-note-lookup-requires
+note-lookup-requires c κs =
+    let s = c .before .before .before .before .before in
+    let w = allowed _ _ _ (s .pre .1 .1) in
+    ((s .pre .0, whole s), (w .inside, (w .lane-le, w .pair)))
 
 same-length : tie.Need-same-length
 same-length c = search needs
 
 returns : tie.Need-returns
 returns c =
-    let n = c .before .before in
-    let f = n .before .before in
-    let s = f .before .before .before in
-    let whole = ap length (s .pre .1 .0) ∙ length-replicate {A = ℕ} 4096 0 in
-    rows-notes _ _ _ _ _ _ _ (f .from-tile .ensures .0) (s .pre .1 .0) (n .note-rows .ensures .0 (s .pre .0) whole (s .pre .1 .1))
+    let i = c .before .before .before .before in
+    lookup-notes _ _ _ _ _ _ (i .before .before .before .before .pre .1 .0) (sym (i .before .from-tile .ensures .0) ∙ i .if1 .taken) (c .before .before .note-lookup .ensures)
+
+note-plain-requires : tie.Need-note-plain-requires
+note-plain-requires c κs =
+    let s = c .before .before .before .before .before in
+    let w = allowed _ _ _ (s .pre .1 .1) in
+    ((s .pre .0, whole s), (w .inside, (w .lane-le, w .pair)))
+
+same-length-2 : tie.Need-same-length-2
+same-length-2 c = search needs
+
+returns-2 : tie.Need-returns-2
+returns-2 c =
+    let i = c .before .before .before .before in
+    plain-notes _ _ _ _ _ _ (i .before .before .before .before .pre .1 .0) (sym (i .before .from-tile .ensures .0) ∙ i .if1 .left) (c .before .before .note-plain .ensures)
 
 pub note-picture-spec : {M : Type 1} → statement M
-note-picture-spec = tie.close (tie.spec from-tile-requires note-rows-requires same-length returns)
+note-picture-spec =
+    tie.close
+    (tie.spec
+    from-tile-requires
+    note-lookup-requires
+    same-length
+    returns
+    note-plain-requires
+    same-length-2
+    returns-2)

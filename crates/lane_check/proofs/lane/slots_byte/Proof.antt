@@ -5,7 +5,7 @@ use Prim.Native.Nat.{_+_, _-_, _*_, _≤_}
 use native.Mathlib.Numerals.{add-one}
 use native.Mathlib.Omega.{arith}
 use borrow.Author.Needs.{needs}
-use Rattle.map_words.specs.Words.{ors}
+use Rattle.rules.proofs.Bits.{ors}
 use Rattle.lane_check.specs.Slots.{slotBit, slotsByte}
 use Rattle.lane_check.proofs.lane.slots_byte.Statement.{statement}
 use Rattle.lane_check.proofs.lane.slots_byte.Tie as tie

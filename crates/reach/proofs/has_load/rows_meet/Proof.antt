@@ -8,7 +8,7 @@ use borrow.Author.Needs.{needs}
 use Rattle.rules.specs.Base.{tab, concat, any, isMarked}
 use Rattle.rules.specs.Reach.{reachRow, reachPlain}
 use Rattle.rdp.specs.View.{tileOf}
-use Rattle.map_words.proofs.Joined.{none-yet, none-more, found}
+use Rattle.reach.proofs.Joined.{none-yet, none-more, found}
 use Rattle.reach.proofs.Axes.{rows-le}
 use Rattle.reach.proofs.has_load.rows_meet.Statement.{statement}
 use Rattle.reach.proofs.has_load.rows_meet.Tie as tie

@@ -6,8 +6,8 @@ use Prim.Native.Nat.{_-_, _≤_}
 use native.Mathlib.Omega.{arith}
 use borrow.Author.Needs.{needs}
 use Rattle.rules.specs.Base.{tab, concat, any, isMarked}
-use Rattle.map_words.proofs.Joined.{none-yet}
-use Rattle.map_words.specs.Words.{wordMeets}
+use Rattle.reach.proofs.Joined.{none-yet}
+use Rattle.reach.specs.Words.{wordMeets}
 use Rattle.reach.specs.Span.{reachedAt, reached, wordIn, bitsIn}
 use Rattle.reach.proofs.Spans.{cutAt, cut-none, cut-all, span-any, span-found}
 use Rattle.reach.proofs.has_load.span_meets.Statement.{statement}

@@ -5,7 +5,7 @@ use Rattle.rules.specs.Refusal.{first}
 use Rattle.rules.specs.Calls.{mapTests, hasLoadCall}
 use Rattle.rules.proofs.Refused.{refused-is, done-is, one-byte}
 use Rattle.rdp.specs.View.{tileOf}
-use Rattle.map_words.proofs.Within.{within}
+use Rattle.reach.proofs.Within.{within}
 use Rattle.reach.proofs.has_load.tile_has_load.Statement.{statement}
 use Rattle.reach.proofs.has_load.tile_has_load.Tie as tie
 

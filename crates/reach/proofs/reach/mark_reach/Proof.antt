@@ -2,7 +2,7 @@
 use mathlib.Core.Path.{sym, _∙_}
 use borrow.Author.Needs.{needs}
 use Rattle.rdp.specs.View.{tileOf}
-use Rattle.map_words.proofs.Joined.{fresh-marks}
+use Rattle.reach.proofs.Joined.{fresh-marks}
 use Rattle.reach.proofs.Reached.{reach-whole, reach-plain, reach-map}
 use Rattle.reach.proofs.reach.mark_reach.Statement.{statement}
 use Rattle.reach.proofs.reach.mark_reach.Tie as tie

@@ -8,7 +8,7 @@ use borrow.Author.Needs.{needs}
 use Rattle.rules.specs.Base.{tab, concat, marks}
 use Rattle.rules.specs.Reach.{reachRow, reachPlain}
 use Rattle.rdp.specs.View.{tileOf}
-use Rattle.map_words.proofs.Joined.{marks-none, marks-more}
+use Rattle.reach.proofs.Joined.{marks-none, marks-more}
 use Rattle.reach.proofs.Axes.{rows-le}
 use Rattle.reach.proofs.reach.mark_rows.Statement.{statement}
 use Rattle.reach.proofs.reach.mark_rows.Tie as tie

@@ -6,7 +6,7 @@ use native.Mathlib.Omega.{arith}
 use lib.ListN.{length}
 use borrow.Author.Needs.{needs}
 use Rattle.rules.specs.Base.{tab, concat, marks}
-use Rattle.map_words.proofs.Joined.{marks-none}
+use Rattle.reach.proofs.Joined.{marks-none}
 use Rattle.reach.specs.Span.{reachedAt, reached}
 use Rattle.reach.proofs.Spans.{cutAt, cut-none, cut-all, span-marks}
 use Rattle.reach.proofs.reach.mark_span.Statement.{statement}

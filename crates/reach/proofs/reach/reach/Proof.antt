@@ -5,7 +5,7 @@ use Rattle.rules.specs.Refusal.{first}
 use Rattle.rules.specs.Calls.{mapTests, reachCall}
 use Rattle.rules.proofs.Refused.{refused-is, done-is}
 use Rattle.rdp.specs.View.{tileOf}
-use Rattle.map_words.proofs.Within.{within}
+use Rattle.reach.proofs.Within.{within}
 use Rattle.reach.proofs.reach.reach.Statement.{statement}
 use Rattle.reach.proofs.reach.reach.Tie as tie
 

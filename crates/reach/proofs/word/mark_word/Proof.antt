@@ -2,7 +2,7 @@
 use Prim.Native.Nat.{_<_}
 use native.Mathlib.Omega.{arith}
 use borrow.Author.Needs.{needs}
-use Rattle.map_words.specs.Words.{wordJoined}
+use Rattle.reach.specs.Words.{wordJoined}
 use Rattle.reach.proofs.word.mark_word.Statement.{statement}
 use Rattle.reach.proofs.word.mark_word.Tie as tie
 

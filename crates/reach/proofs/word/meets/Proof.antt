@@ -1,6 +1,6 @@
 -- `reach::word::meets` is the test that its contract names. Assumes nothing.
 use borrow.Author.Needs.{needs}
-use Rattle.map_words.specs.Words.{meets}
+use Rattle.reach.specs.Words.{meets}
 use Rattle.reach.proofs.word.meets.Statement.{statement}
 use Rattle.reach.proofs.word.meets.Tie as tie
 

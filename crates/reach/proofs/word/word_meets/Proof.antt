@@ -2,7 +2,7 @@
 use Prim.Native.Nat.{_<_}
 use native.Mathlib.Omega.{arith}
 use borrow.Author.Needs.{needs}
-use Rattle.map_words.specs.Words.{wordMeets}
+use Rattle.reach.specs.Words.{wordMeets}
 use Rattle.reach.proofs.word.word_meets.Statement.{statement}
 use Rattle.reach.proofs.word.word_meets.Tie as tie
 

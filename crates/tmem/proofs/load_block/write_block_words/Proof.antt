@@ -1,7 +1,7 @@
 -- `tmem::load_block::write_block_words` is a run of words. Assumes nothing.
 use borrow.Author.Needs.{needs}
 use native.Mathlib.Omega.{arith}
-use Rattle.tmem_words.specs.Part.{loadOf}
+use Rattle.tmem.specs.Part.{loadOf}
 use Rattle.tmem.proofs.Runs.{image-ranged, block-paced, block-is}
 use Rattle.tmem.proofs.load_block.write_block_words.Statement.{statement}
 use Rattle.tmem.proofs.load_block.write_block_words.Tie as tie
@@ -13,7 +13,10 @@ shr-columns : tie.Need-shr-columns
 shr-columns c = search needs
 
 write-words-requires : tie.Need-write-words-requires
-write-words-requires c κs = search needs
+write-words-requires c κs =
+    let s = c .before .before .before .before .before .before in
+    let image = image-ranged (s .args .image-siz) (loadOf (s .args .tile)) (s .pre .1 .0) (c .before .before .image-tile .ensures) in
+    (s .pre .0, (image, (block-paced (s .args .image-siz) (s .args .dxt) (s .pre .1 .1 .1 .0), omega (arith, s .pre))))
 
 same-length : tie.Need-same-length
 same-length c = search needs
@@ -25,11 +28,8 @@ returns : tie.Need-returns
 returns c =
     let d = c .before .before .before .before in
     let s = d .before .before .before .before .before .before .before in
-    let same = d .before .before .before .image-tile .ensures in
-    let image = image-ranged (s .args .image-siz) (loadOf (s .args .tile)) (s .pre .1 .0) same in
-    let paced = block-paced (s .args .image-siz) (s .args .dxt) (s .pre .1 .1 .1 .0) in
-    rw (← block-is (loadOf (s .args .tile)) (s .args .image-siz) (s .args .dxt) (s .args .words) same)
-    (d .write-words .ensures .0 (s .pre .0) image paced (omega (arith, s .pre)))
+    rw (← block-is (loadOf (s .args .tile)) (s .args .image-siz) (s .args .dxt) (s .args .words) (d .before .before .before .image-tile .ensures))
+    (d .write-words .ensures)
 
 pub write-block-words-spec : {M : Type 1} → statement M
 write-block-words-spec =

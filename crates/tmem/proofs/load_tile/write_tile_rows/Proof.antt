@@ -2,8 +2,8 @@
 use Prim.Native.Nat.{_+_, _-_, _*_, _≤_}
 use native.Mathlib.Omega.{arith}
 use Rattle.rules.specs.Load.{tileRow, tileStores}
-use Rattle.tmem_words.specs.Part.{loadOf}
-use Rattle.tmem_words.proofs.Carry.{Counted, begin-count, next-count, finish-count, count-within}
+use Rattle.tmem.specs.Part.{loadOf}
+use Rattle.tmem.proofs.Carry.{Counted, begin-count, next-count, finish-count, count-within}
 use Rattle.tmem.proofs.Runs.{row-length}
 use Rattle.tmem.proofs.load_tile.write_tile_rows.Statement.{statement}
 use Rattle.tmem.proofs.load_tile.write_tile_rows.Tie as tie

@@ -2,7 +2,7 @@
 use Prim.Native.Nat.{_≤_}
 use native.Mathlib.Omega.{arith}
 use borrow.Author.Needs.{needs}
-use Rattle.tmem.proofs.Steps.{step-covers, covers-within}
+use Rattle.tmem.proofs.Runs.{step-covers, covers-within}
 use Rattle.tmem.proofs.load_tlut.tlut_steps.Statement.{statement}
 use Rattle.tmem.proofs.load_tlut.tlut_steps.Tie as tie
 

@@ -1,7 +1,7 @@
 -- `tmem::load_tlut::write_tlut` is one of the two loads, by the test of the rule. Assumes nothing.
 use borrow.Author.Needs.{needs}
-use Rattle.tmem_words.specs.Part.{loadOf}
-use Rattle.tmem.proofs.Steps.{hardware-is, rows-are}
+use Rattle.tmem.specs.Part.{loadOf}
+use Rattle.tmem.proofs.Runs.{hardware-is, rows-are}
 use Rattle.tmem.proofs.load_tlut.write_tlut.Statement.{statement}
 use Rattle.tmem.proofs.load_tlut.write_tlut.Tie as tie
 
@@ -21,8 +21,8 @@ returns c =
     let a = i .before .before .before .before .args in
     rw (hardware-is (loadOf (a .tile)) (a .image-siz) (a .count) (a .rows) (a .stride) (i .if1 .taken)) (d .write-tlut-words .ensures)
 
-write-entries-requires : tie.Need-write-entries-requires
-write-entries-requires c κs = search needs
+write-tlut-rows-requires : tie.Need-write-tlut-rows-requires
+write-tlut-rows-requires c κs = search needs
 
 same-length-3 : tie.Need-same-length-3
 same-length-3 c = search needs
@@ -34,11 +34,8 @@ returns-2 : tie.Need-returns-2
 returns-2 c =
     let d = c .before .before .before .before in
     let i = d .before .before .before in
-    let s = i .before .before .before .before in
-    let a = s .args in
-    let p = s .pre .1 in
-    rw (rows-are (loadOf (a .tile)) (a .image-siz) (a .count) (a .rows) (a .stride) (i .if1 .left))
-    (d .write-entries .ensures .0 (s .pre .0) (p .0) (p .1 .1 .0) (p .1 .1 .1 .0) (p .1 .1 .1 .1))
+    let a = i .before .before .before .before .args in
+    rw (rows-are (loadOf (a .tile)) (a .image-siz) (a .count) (a .rows) (a .stride) (i .if1 .left)) (d .write-tlut-rows .ensures)
 
 pub write-tlut-spec : {M : Type 1} → statement M
 write-tlut-spec =
@@ -48,7 +45,7 @@ write-tlut-spec =
     same-length
     same-length-2
     returns
-    write-entries-requires
+    write-tlut-rows-requires
     same-length-3
     same-length-4
     returns-2)

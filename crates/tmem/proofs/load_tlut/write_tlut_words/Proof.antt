@@ -2,8 +2,8 @@
 use Prim.Native.Nat.{_≤_}
 use native.Mathlib.Omega.{arith}
 use borrow.Author.Needs.{needs}
-use Rattle.tmem_words.specs.Part.{loadOf}
-use Rattle.tmem.proofs.Steps.{steps-within, tlut-paced, tlut-is}
+use Rattle.tmem.specs.Part.{loadOf}
+use Rattle.tmem.proofs.Runs.{steps-within, tlut-paced, tlut-is}
 use Rattle.tmem.proofs.load_tlut.write_tlut_words.Statement.{statement}
 use Rattle.tmem.proofs.load_tlut.write_tlut_words.Tie as tie
 
@@ -17,7 +17,11 @@ tlut-steps-requires : tie.Need-tlut-steps-requires
 tlut-steps-requires c κs = search needs
 
 write-words-requires : tie.Need-write-words-requires
-write-words-requires c κs = search needs
+write-words-requires c κs =
+    let n = c .before .before in
+    let s = n .before .before .before .before .before in
+    let few : n .tlut-steps .result ≤ 1024 = rw (n .tlut-steps .ensures) (steps-within (s .args .image-siz) (s .args .count) (s .pre .1 .1 .0) (s .pre .1 .1 .1)) in
+    (s .pre .0, (s .pre .1 .0, (rw (n .before .tlut-advance .ensures) (tlut-paced (s .args .image-siz)), omega (arith, few))))
 
 same-length : tie.Need-same-length
 same-length c = search needs
@@ -30,9 +34,7 @@ returns c =
     let d = c .before .before .before .before in
     let s = d .before .before .before .before .before .before .before .before in
     let n = d .before .before .before in
-    let few : n .tlut-steps .result ≤ 1024 = rw (n .tlut-steps .ensures) (steps-within (s .args .image-siz) (s .args .count) (s .pre .1 .1 .0) (s .pre .1 .1 .1)) in
-    rw (← tlut-is (loadOf (s .args .tile)) (s .args .image-siz) (s .args .count), ← n .tlut-steps .ensures, ← n .before .tlut-advance .ensures)
-    (d .write-words .ensures .0 (s .pre .0) (s .pre .1 .0) (rw (n .before .tlut-advance .ensures) (tlut-paced (s .args .image-siz))) (omega (arith, few)))
+    rw (← tlut-is (loadOf (s .args .tile)) (s .args .image-siz) (s .args .count), ← n .tlut-steps .ensures, ← n .before .tlut-advance .ensures) (d .write-words .ensures)
 
 pub write-tlut-words-spec : {M : Type 1} → statement M
 write-tlut-words-spec =

@@ -49,14 +49,14 @@ use Rattle.rdp.proofs.answer.Answer as Ans
 use Rattle.rdp.proofs.answer.Answer.Laws as Ans′
 use Rattle.rdp.proofs.tile.TileDescriptor as Tile
 use Rattle.rdp.proofs.tile.TileDescriptor.Laws as Tile′
-use Rattle.pictures.specs.Asked.{outcomeBy, buffersBy}
+use Rattle.decoder.specs.Asked.{outcomeBy, buffersBy}
 use Rattle.decoder.specs.declared.bank_decoder.BankDecoder.{BankDecoder}
 use Rattle.decoder.proofs.bank_decoder.BankDecoder as T
 use Rattle.decoder.proofs.bank_decoder.BankDecoder.Laws as T′
-use Rattle.pictures.proofs.decode.decode_picture as decode
-use Rattle.pictures.proofs.decode.decode_picture.Symbol as decode-def
-use Rattle.pictures.proofs.decode.decode_picture.Symbol.{name as #decoder·decode-picture}
-use Rattle.pictures.proofs.decode.decode_picture.Met as decode-thm
+use Rattle.decoder.proofs.decode.decode_picture as decode
+use Rattle.decoder.proofs.decode.decode_picture.Symbol as decode-def
+use Rattle.decoder.proofs.decode.decode_picture.Symbol.{name as #decoder·decode-picture}
+use Rattle.decoder.proofs.decode.decode_picture.Met as decode-thm
 use Rattle.decoder.proofs.bank_decoder.BankDecoder.picture.Key.{name as #decoder·picture}
 use Rattle.decoder.proofs.bank_decoder.BankDecoder.picture as picture
 use Rattle.decoder.proofs.bank_decoder.BankDecoder.picture.Statement as stated
@@ -201,4 +201,4 @@ picture-spec 𝓤 H 𝓜 𝓖 𝓡 =
     entered 𝓤 H (tripleOf 𝓤 H (𝓖 .A) picture.signature (picture.spec 𝓤 H (𝓖 .A) (𝓜 .mem) (𝓡 .run)))
     (tables 𝓤 H 𝓜 𝓡 code.env .C) (tables 𝓤 H 𝓜 𝓡 code.env .Λ) #decoder·picture code.function (code.unfolded 𝓤 H 𝓜 𝓡)
     (picture-meets 𝓤 H (𝓖 .A) (givenOf 𝓤 H 𝓜 𝓖) (𝓜 .mem) (𝓡 .run) (tablesOf 𝓤 H 𝓜 (tables 𝓤 H 𝓜 𝓡 code.env))
-    (cited 𝓤 H (Decode 𝓤 H (𝓖 .A) (𝓜 .mem) (𝓡 .run)) 𝓜 𝓡 code.env #decoder·decode-picture decode-def.routine code.calls-pictures·decode·decode-picture (decode-thm.met 𝓤 H 𝓜 𝓖 𝓡)))
+    (cited 𝓤 H (Decode 𝓤 H (𝓖 .A) (𝓜 .mem) (𝓡 .run)) 𝓜 𝓡 code.env #decoder·decode-picture decode-def.routine code.calls-decoder·decode·decode-picture (decode-thm.met 𝓤 H 𝓜 𝓖 𝓡)))

@@ -1,0 +1,209 @@
+-- `decoder::rows::decode_direct_row` is the row of its kind, each kind named. Assumes nothing.
+use Rattle.decoder.proofs.NamedKinds.{last}
+use mathlib.Core.Path.{sym}
+use borrow.Author.Needs.{needs}
+use Rattle.decoder.proofs.rows.decode_direct_row.Statement.{statement}
+use Rattle.decoder.proofs.rows.decode_direct_row.Tie as tie
+
+decode-row-requires : tie.Need-decode-row-requires
+decode-row-requires c κs =
+    let s = c .before .before .before .before .before .before in
+    (rw (c .before .before .match .keys1) at (s .pre .0), (sym (s .pre .1 .0), s .pre .1 .1 .1))
+
+decode-row-requires-2 : tie.Need-decode-row-requires-2
+decode-row-requires-2 c κs =
+    let s = c .before .before .before .before .before .before in
+    (rw (c .before .before .match .keys2) at (s .pre .0), (sym (s .pre .1 .0), s .pre .1 .1 .1))
+
+decode-row-requires-3 : tie.Need-decode-row-requires-3
+decode-row-requires-3 c κs =
+    let s = c .before .before .before .before .before .before in
+    (rw (c .before .before .match .keys3) at (s .pre .0), (sym (s .pre .1 .0), s .pre .1 .1 .1))
+
+decode-row-requires-4 : tie.Need-decode-row-requires-4
+decode-row-requires-4 c κs =
+    let s = c .before .before .before .before .before .before in
+    (rw (c .before .before .match .keys4) at (s .pre .0), (sym (s .pre .1 .0), s .pre .1 .1 .1))
+
+decode-row-requires-5 : tie.Need-decode-row-requires-5
+decode-row-requires-5 c κs =
+    let s = c .before .before .before .before .before .before in
+    (rw (c .before .before .match .keys5) at (s .pre .0), (sym (s .pre .1 .0), s .pre .1 .1 .1))
+
+decode-row-requires-6 : tie.Need-decode-row-requires-6
+decode-row-requires-6 c κs =
+    let s = c .before .before .before .before .before .before in
+    (rw (c .before .before .match .keys6) at (s .pre .0), (sym (s .pre .1 .0), s .pre .1 .1 .1))
+
+decode-row-requires-7 : tie.Need-decode-row-requires-7
+decode-row-requires-7 c κs =
+    let s = c .before .before .before .before .before .before in
+    (rw (c .before .before .match .keys7) at (s .pre .0), (sym (s .pre .1 .0), s .pre .1 .1 .1))
+
+decode-row-requires-8 : tie.Need-decode-row-requires-8
+decode-row-requires-8 c κs =
+    let s = c .before .before .before .before .before .before in
+    (rw (c .before .before .match .keys8) at (s .pre .0), (sym (s .pre .1 .0), s .pre .1 .1 .1))
+
+decode-row-requires-9 : tie.Need-decode-row-requires-9
+decode-row-requires-9 c κs =
+    let s = c .before .before .before .before .before .before in
+    (rw (c .before .before .match .keys9) at (s .pre .0), (sym (s .pre .1 .0), s .pre .1 .1 .1))
+
+decode-row-requires-10 : tie.Need-decode-row-requires-10
+decode-row-requires-10 c κs =
+    let s = c .before .before .before .before .before .before in
+    (rw (c .before .before .match .keys10) at (s .pre .0), (sym (s .pre .1 .0), s .pre .1 .1 .1))
+
+decode-row-requires-11 : tie.Need-decode-row-requires-11
+decode-row-requires-11 c κs =
+    let s = c .before .before .before .before .before .before in
+    (rw (last _ _ _ (s .pre .0 .kind) (s .pre .1 .1 .0) (s .pre .0 .inside) (s .pre .0 .knows) (c .before .before .match .rest)) at (s .pre .0), (sym (s .pre .1 .0), s .pre .1 .1 .1))
+
+same-length : tie.Need-same-length
+same-length c = search needs
+
+same-length-2 : tie.Need-same-length-2
+same-length-2 c = search needs
+
+returns : tie.Need-returns
+returns c = search needs
+
+same-length-3 : tie.Need-same-length-3
+same-length-3 c = search needs
+
+same-length-4 : tie.Need-same-length-4
+same-length-4 c = search needs
+
+returns-2 : tie.Need-returns-2
+returns-2 c = search needs
+
+same-length-5 : tie.Need-same-length-5
+same-length-5 c = search needs
+
+same-length-6 : tie.Need-same-length-6
+same-length-6 c = search needs
+
+returns-3 : tie.Need-returns-3
+returns-3 c = search needs
+
+same-length-7 : tie.Need-same-length-7
+same-length-7 c = search needs
+
+same-length-8 : tie.Need-same-length-8
+same-length-8 c = search needs
+
+returns-4 : tie.Need-returns-4
+returns-4 c = search needs
+
+same-length-9 : tie.Need-same-length-9
+same-length-9 c = search needs
+
+same-length-10 : tie.Need-same-length-10
+same-length-10 c = search needs
+
+returns-5 : tie.Need-returns-5
+returns-5 c = search needs
+
+same-length-11 : tie.Need-same-length-11
+same-length-11 c = search needs
+
+same-length-12 : tie.Need-same-length-12
+same-length-12 c = search needs
+
+returns-6 : tie.Need-returns-6
+returns-6 c = search needs
+
+same-length-13 : tie.Need-same-length-13
+same-length-13 c = search needs
+
+same-length-14 : tie.Need-same-length-14
+same-length-14 c = search needs
+
+returns-7 : tie.Need-returns-7
+returns-7 c = search needs
+
+same-length-15 : tie.Need-same-length-15
+same-length-15 c = search needs
+
+same-length-16 : tie.Need-same-length-16
+same-length-16 c = search needs
+
+returns-8 : tie.Need-returns-8
+returns-8 c = search needs
+
+same-length-17 : tie.Need-same-length-17
+same-length-17 c = search needs
+
+same-length-18 : tie.Need-same-length-18
+same-length-18 c = search needs
+
+returns-9 : tie.Need-returns-9
+returns-9 c = search needs
+
+same-length-19 : tie.Need-same-length-19
+same-length-19 c = search needs
+
+same-length-20 : tie.Need-same-length-20
+same-length-20 c = search needs
+
+returns-10 : tie.Need-returns-10
+returns-10 c = search needs
+
+same-length-21 : tie.Need-same-length-21
+same-length-21 c = search needs
+
+same-length-22 : tie.Need-same-length-22
+same-length-22 c = search needs
+
+returns-11 : tie.Need-returns-11
+returns-11 c = search needs
+
+pub decode-direct-row-spec : {M : Type 1} → statement M
+decode-direct-row-spec =
+    tie.close
+    (tie.spec
+    decode-row-requires
+    decode-row-requires-2
+    decode-row-requires-3
+    decode-row-requires-4
+    decode-row-requires-5
+    decode-row-requires-6
+    decode-row-requires-7
+    decode-row-requires-8
+    decode-row-requires-9
+    decode-row-requires-10
+    decode-row-requires-11
+    same-length
+    same-length-2
+    returns
+    same-length-3
+    same-length-4
+    returns-2
+    same-length-5
+    same-length-6
+    returns-3
+    same-length-7
+    same-length-8
+    returns-4
+    same-length-9
+    same-length-10
+    returns-5
+    same-length-11
+    same-length-12
+    returns-6
+    same-length-13
+    same-length-14
+    returns-7
+    same-length-15
+    same-length-16
+    returns-8
+    same-length-17
+    same-length-18
+    returns-9
+    same-length-19
+    same-length-20
+    returns-10
+    same-length-21
+    same-length-22
+    returns-11)

@@ -1,0 +1,137 @@
+// A texel without a lookup table.
+ghost use mathlib.Core.Path.{_≡_};
+ghost use Prim.Native.Nat.{_+_, _*_, _<_, _≤_};
+ghost use Rattle.rules.specs.Texdec.{rgba32, same4, nibble};
+ghost use Rattle.rules.specs.Picture.{direct, formatReads};
+ghost use Rattle.texdec.specs.Ia8.{Ia8Table};
+ghost use Rattle.decoder.specs.Steps.{formatAt, Decodes};
+use crate::format::format_reads;
+use crate::load::entry_of;
+use crate::load::load_byte;
+use crate::load::load_byte_rgba32;
+use crate::texel::Texel;
+use texdec::entry::decode_ia16_entry;
+use texdec::entry::decode_rgba16_entry;
+use texdec::ia8::texel_bytes;
+use texdec::nibble::decode_i4;
+use texdec::nibble::decode_ia4;
+use texdec::nibble::nibble;
+
+// Red and green from the low half of the bank, blue and alpha from the same places of the high half.
+fn rgba32_texel(bank: &[u8], base: usize, palette: u32, rel: usize, odd: bool, x: usize) -> Texel
+    requires { ⌜ base ≤ 34359738367 ⌝ }
+    requires { ⌜ rel < 4294967296 ⌝ }
+    ensures { λ r. ⌜ Decodes (direct rgba32 base palette odd rel x) (now (bank .entry)) r ⌝ }
+{
+    let r = load_byte_rgba32(bank, base, rel, odd, 0);
+    let g = load_byte_rgba32(bank, base, rel + 1, odd, 0);
+    let b = load_byte_rgba32(bank, base, rel, odd, 2048);
+    let a = load_byte_rgba32(bank, base, rel + 1, odd, 2048);
+    Texel {
+        channels: [r.byte, g.byte, b.byte, a.byte],
+        reads: [r.at, g.at, b.at, a.at],
+        count: 4,
+    }
+}
+
+// A texel of two bytes, the high one first: RGBA16, IA16, or an index of 16 bits.
+fn two_byte_texel(
+    bank: &[u8],
+    place: u32,
+    base: usize,
+    palette: u32,
+    rel: usize,
+    odd: bool,
+    x: usize,
+) -> Texel
+    requires { ⌜ formatReads (formatAt place) ≡ 2 ⌝ }
+    requires { ⌜ base ≤ 34359738367 ⌝ }
+    requires { ⌜ rel < 4294967296 ⌝ }
+    ensures { λ r. ⌜ Decodes (direct (formatAt place) base palette odd rel x) (now (bank .entry)) r ⌝ }
+{
+    let hi = load_byte(bank, base, rel, odd);
+    let lo = load_byte(bank, base, rel + 1, odd);
+    let channels = match place {
+        2 => decode_rgba16_entry(entry_of(hi.byte, lo.byte)),
+        14 => decode_ia16_entry(entry_of(hi.byte, lo.byte)),
+        _ => [hi.byte, lo.byte, hi.byte, lo.byte],
+    };
+    Texel {
+        channels,
+        reads: [hi.at, lo.at, 0, 0],
+        count: 2,
+    }
+}
+
+// A texel of one byte: an index of 4 bits, IA4, IA8, I4, or, of 8 bits, an index or I8.
+fn one_byte_texel(
+    bank: &[u8],
+    ia8: &[u32; 256],
+    place: u32,
+    base: usize,
+    palette: u32,
+    rel: usize,
+    odd: bool,
+    x: usize,
+) -> Texel
+    requires { ⌜ formatReads (formatAt place) ≡ 1 ⌝ }
+    requires { ⌜ base ≤ 34359738367 ⌝ }
+    requires { ⌜ palette ≤ 15 ⌝ }
+    requires { ⌜ rel < 4294967296 ⌝ }
+    requires { ⌜ Ia8Table (now ia8) ⌝ }
+    ensures { λ r. ⌜ Decodes (direct (formatAt place) base palette odd rel x) (now (bank .entry)) r ⌝ }
+{
+    let load = load_byte(bank, base, rel, odd);
+    let byte = load.byte;
+    let channels = match place {
+        8 => ci4_texel(palette, x, byte),
+        12 => decode_ia4(x, byte),
+        13 => texel_bytes(ia8[byte as usize]),
+        16 => decode_i4(x, byte),
+        _ => [byte, byte, byte, byte],
+    };
+    Texel {
+        channels,
+        reads: [load.at, 0, 0, 0],
+        count: 1,
+    }
+}
+
+// The index that a nibble stands for, in all channels.
+fn ci4_texel(palette: u32, x: usize, byte: u8) -> [u8; 4]
+    requires { ⌜ palette ≤ 15 ⌝ }
+    ensures { λ r. ⌜ r ≡ same4 (palette * 16 + nibble x byte) ⌝ }
+{
+    let i = palette as u8 * 16 + nibble(x, byte);
+    [i, i, i, i]
+}
+
+// The texel of the format at a place. Of one that the step does not know it reads and gives nothing.
+pub(crate) fn direct_texel(
+    bank: &[u8],
+    ia8: &[u32; 256],
+    place: u32,
+    base: usize,
+    palette: u32,
+    rel: usize,
+    odd: bool,
+    x: usize,
+) -> Texel
+    requires { ⌜ base ≤ 34359738367 ⌝ }
+    requires { ⌜ palette ≤ 15 ⌝ }
+    requires { ⌜ rel < 4294967296 ⌝ }
+    requires { ⌜ Ia8Table (now ia8) ⌝ }
+    ensures { λ r. ⌜ Decodes (direct (formatAt place) base palette odd rel x) (now (bank .entry)) r ⌝ }
+{
+    let reads = format_reads(place);
+    match reads {
+        1 => one_byte_texel(bank, ia8, place, base, palette, rel, odd, x),
+        2 => two_byte_texel(bank, place, base, palette, rel, odd, x),
+        4 => rgba32_texel(bank, base, palette, rel, odd, x),
+        _ => Texel {
+            channels: [0, 0, 0, 0],
+            reads: [0, 0, 0, 0],
+            count: 0,
+        },
+    }
+}

@@ -1,0 +1,213 @@
+// Rows of texels. Each is written through the part of the lent picture that starts at its first byte, and its reads through
+// the part of the trail.
+ghost use mathlib.Core.Path.{_≡_};
+ghost use mathlib.Core.Bool.{false};
+ghost use Prim.Native.Nat.{_*_, _<_, _≤_};
+ghost use lib.ListN.{length};
+ghost use Rattle.rules.specs.Base.{over};
+ghost use Rattle.rules.specs.Reading.{given, trail};
+ghost use Rattle.decoder.specs.Rows.{four, RowBounds, Ready, oneTexel, oneRow, allRows, told};
+use crate::place::Row;
+use crate::place::row_at;
+use crate::plan::Plan;
+use crate::texel::decode_texel_lane;
+use crate::trail::note_reads;
+
+// Four channels go to the front of the picture.
+fn put_channels(channels: [u8; 4], out: &mut [u8])
+    requires { ⌜ 4 ≤ length (now out) ⌝ }
+    ensures { λ _. ⌜ now (out .exit) ≡ over (four channels) (now (out .entry)) ⌝ }
+{
+    out[0] = channels[0];
+    out[1] = channels[1];
+    out[2] = channels[2];
+    out[3] = channels[3];
+}
+
+// Texel i of a row goes to the front of the picture, and its reads to the front of the trail if it is observed.
+fn put_texel(
+    bank: &[u8],
+    table: &[u32; 256],
+    plan: Plan,
+    kind: u32,
+    observe: bool,
+    row: Row,
+    i: usize,
+    out: &mut [u8],
+    seen: &mut [u8],
+)
+    requires { ⌜ Ready (now bank) (now table) plan kind ⌝ }
+    requires { ⌜ observe ≡ plan .observe ⌝ }
+    requires { ⌜ RowBounds row ⌝ }
+    requires { ⌜ i < 4096 ⌝ }
+    requires { ⌜ 4 ≤ length (now out) ⌝ }
+    requires { ⌜ plan .step ≤ length (now seen) ⌝ }
+    ensures { λ _. ⌜ now (out .exit) ≡ over (given (oneTexel plan row i) (now (bank .entry))) (now (out .entry)) ⌝ }
+    ensures { λ _. ⌜ now (seen .exit) ≡ over (told (plan .observe) (trail (oneTexel plan row i) (now (bank .entry)))) (now (seen .entry)) ⌝ }
+{
+    let rel = row.rel(i);
+    let x = row.x(i);
+    let texel = decode_texel_lane(bank, table, plan, kind, rel as u32, row.odd, x);
+    let channels = texel.channels;
+    put_channels(channels, out);
+    if observe {
+        let reads = texel.reads;
+        note_reads(reads, texel.count, seen);
+    }
+}
+
+// A row, from the front of picture and trail on.
+fn decode_row(
+    bank: &[u8],
+    table: &[u32; 256],
+    plan: Plan,
+    kind: u32,
+    observe: bool,
+    row: Row,
+    out: &mut [u8],
+    seen: &mut [u8],
+)
+    requires { ⌜ Ready (now bank) (now table) plan kind ⌝ }
+    requires { ⌜ observe ≡ plan .observe ⌝ }
+    requires { ⌜ RowBounds row ⌝ }
+    requires { ⌜ 4 * plan .width ≤ length (now out) ⌝ }
+    requires { ⌜ plan .step * plan .width ≤ length (now seen) ⌝ }
+    ensures { λ _. ⌜ now (out .exit) ≡ over (given (oneRow plan row) (now (bank .entry))) (now (out .entry)) ⌝ }
+    ensures { λ _. ⌜ now (seen .exit) ≡ over (told (plan .observe) (trail (oneRow plan row) (now (bank .entry)))) (now (seen .entry)) ⌝ }
+{
+    let width = plan.width;
+    let step = plan.step;
+    for i in 0..width {
+        let o = 4 * i;
+        let s = step * i;
+        put_texel(
+            bank,
+            table,
+            plan,
+            kind,
+            observe,
+            row,
+            i,
+            &mut out[o..],
+            &mut seen[s..],
+        );
+    }
+}
+
+// A row that is not observed. Each arm names its kind, so that the compiler makes a loop for each.
+fn decode_paletted_row(
+    bank: &[u8],
+    table: &[u32; 256],
+    plan: Plan,
+    kind: u32,
+    row: Row,
+    out: &mut [u8],
+    seen: &mut [u8],
+)
+    requires { ⌜ Ready (now bank) (now table) plan kind ⌝ }
+    requires { ⌜ plan .observe ≡ false ⌝ }
+    requires { ⌜ 2 ≤ plan .«tlut_fmt» ⌝ }
+    requires { ⌜ RowBounds row ⌝ }
+    requires { ⌜ 4 * plan .width ≤ length (now out) ⌝ }
+    requires { ⌜ plan .step * plan .width ≤ length (now seen) ⌝ }
+    ensures { λ _. ⌜ now (out .exit) ≡ over (given (oneRow plan row) (now (bank .entry))) (now (out .entry)) ⌝ }
+    ensures { λ _. ⌜ now (seen .exit) ≡ over (told (plan .observe) (trail (oneRow plan row) (now (bank .entry)))) (now (seen .entry)) ⌝ }
+{
+    match kind {
+        32 => decode_row(bank, table, plan, 32, false, row, out, seen),
+        33 => decode_row(bank, table, plan, 33, false, row, out, seen),
+        _ => decode_row(bank, table, plan, 34, false, row, out, seen),
+    }
+}
+
+fn decode_direct_row(
+    bank: &[u8],
+    table: &[u32; 256],
+    plan: Plan,
+    kind: u32,
+    row: Row,
+    out: &mut [u8],
+    seen: &mut [u8],
+)
+    requires { ⌜ Ready (now bank) (now table) plan kind ⌝ }
+    requires { ⌜ plan .observe ≡ false ⌝ }
+    requires { ⌜ plan .«tlut_fmt» < 2 ⌝ }
+    requires { ⌜ RowBounds row ⌝ }
+    requires { ⌜ 4 * plan .width ≤ length (now out) ⌝ }
+    requires { ⌜ plan .step * plan .width ≤ length (now seen) ⌝ }
+    ensures { λ _. ⌜ now (out .exit) ≡ over (given (oneRow plan row) (now (bank .entry))) (now (out .entry)) ⌝ }
+    ensures { λ _. ⌜ now (seen .exit) ≡ over (told (plan .observe) (trail (oneRow plan row) (now (bank .entry)))) (now (seen .entry)) ⌝ }
+{
+    match kind {
+        2 => decode_row(bank, table, plan, 2, false, row, out, seen),
+        3 => decode_row(bank, table, plan, 3, false, row, out, seen),
+        8 => decode_row(bank, table, plan, 8, false, row, out, seen),
+        9 => decode_row(bank, table, plan, 9, false, row, out, seen),
+        10 => decode_row(bank, table, plan, 10, false, row, out, seen),
+        11 => decode_row(bank, table, plan, 11, false, row, out, seen),
+        12 => decode_row(bank, table, plan, 12, false, row, out, seen),
+        13 => decode_row(bank, table, plan, 13, false, row, out, seen),
+        14 => decode_row(bank, table, plan, 14, false, row, out, seen),
+        16 => decode_row(bank, table, plan, 16, false, row, out, seen),
+        _ => decode_row(bank, table, plan, 17, false, row, out, seen),
+    }
+}
+
+// A row, observed or not, with a lookup table or without.
+fn paint_row(
+    bank: &[u8],
+    table: &[u32; 256],
+    plan: Plan,
+    kind: u32,
+    row: Row,
+    out: &mut [u8],
+    seen: &mut [u8],
+)
+    requires { ⌜ Ready (now bank) (now table) plan kind ⌝ }
+    requires { ⌜ RowBounds row ⌝ }
+    requires { ⌜ 4 * plan .width ≤ length (now out) ⌝ }
+    requires { ⌜ plan .step * plan .width ≤ length (now seen) ⌝ }
+    ensures { λ _. ⌜ now (out .exit) ≡ over (given (oneRow plan row) (now (bank .entry))) (now (out .entry)) ⌝ }
+    ensures { λ _. ⌜ now (seen .exit) ≡ over (told (plan .observe) (trail (oneRow plan row) (now (bank .entry)))) (now (seen .entry)) ⌝ }
+{
+    if plan.observe {
+        decode_row(bank, table, plan, kind, true, row, out, seen);
+        return;
+    }
+    if 2 <= plan.tlut_fmt {
+        decode_paletted_row(bank, table, plan, kind, row, out, seen);
+        return;
+    }
+    decode_direct_row(bank, table, plan, kind, row, out, seen);
+}
+
+// All rows. Row y is written through the part of the picture from 4 times width times y on, and of the trail likewise.
+pub(crate) fn decode_rows(
+    bank: &[u8],
+    table: &[u32; 256],
+    plan: Plan,
+    kind: u32,
+    out: &mut [u8],
+    seen: &mut [u8],
+)
+    requires { ⌜ Ready (now bank) (now table) plan kind ⌝ }
+    requires { ⌜ 4 * plan .width * plan .rows ≤ length (now out) ⌝ }
+    requires { ⌜ plan .step * plan .width * plan .rows ≤ length (now seen) ⌝ }
+    ensures { λ _. ⌜ now (out .exit) ≡ over (given (allRows plan) (now (bank .entry))) (now (out .entry)) ⌝ }
+    ensures { λ _. ⌜ now (seen .exit) ≡ over (told (plan .observe) (trail (allRows plan) (now (bank .entry)))) (now (seen .entry)) ⌝ }
+{
+    // The contract says so; the compiler reads it here, and drops the test at each byte.
+    if bank.len() != 4096 {
+        return;
+    }
+    let rows = plan.rows;
+    let bytes = 4 * plan.width;
+    let told = plan.step * plan.width;
+    for y in 0..rows {
+        let tile = plan.tile;
+        let row = row_at(tile, plan.tlut_fmt, plan.lookup, y);
+        let o = bytes * y;
+        let s = told * y;
+        paint_row(bank, table, plan, kind, row, &mut out[o..], &mut seen[s..]);
+    }
+}

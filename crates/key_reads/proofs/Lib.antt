@@ -1,2 +1,0 @@
--- The laws of notes, for this crate and those above it.
-pub mod Notes

@@ -1,2 +1,0 @@
-// A record's line, for the lister (`listing`).
-pub mod line;

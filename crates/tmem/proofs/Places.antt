@@ -1,0 +1,107 @@
+-- The stores of a word, a place at a time, and their number.
+use mathlib.Core.Path.{_≡_, refl}
+use mathlib.Core.Bool.{Bool, true, false, cond}
+use mathlib.Core.List.{List, [], _∷_, _++_}
+use Prim.Native.Nat.{ℕ, _+_, _-_, _*_, _%_, _≤_}
+use native.Mathlib.Nat.{add-zero}
+use native.Mathlib.Omega.{arith}
+use lib.Bits.{bitAnd, bitXor, and-le-r, and-mod}
+use lib.Dec.{eqb}
+use lib.ListN.{length, getD}
+use Rattle.rules.specs.Base.{tab, tabFrom, concat}
+use Rattle.rules.specs.Load.{Store, store, LoadTile, halfword, base, firstSpot, oddSpot, list4, splits, upper, splitAt, splitStores, wholeStores, wordStores}
+use Rattle.tmem.specs.Part.{Spots, halfStores, CarriedOut}
+use Rattle.tmem.proofs.Carry.{exchanged}
+use Rattle.tmem.proofs.Indices.{start-below}
+
+-- the four stores at the place of turn j of a word that goes to both halves
+abbrev pub splitTurn : ℕ → List ℕ → ℕ → (ℕ → ℕ) → ℕ → List Store
+splitTurn step l start from j =
+    store (getD l (start + j) 0) (from (4 * j))
+    ∷ store (getD l (start + j) 0 + 2048) (from (4 * j + 3 - step))
+    ∷ store (getD l (start + j) 0 + 1) (from (4 * j + step))
+    ∷ store (getD l (start + j) 0 + 1 + 2048) (from (4 * j + 3))
+    ∷ []
+
+-- made a halfword at a time they come to the same, as the halves are far apart
+pub split-turn : {src bank map bank′ map′ : List ℕ} (a step : ℕ) (l : List ℕ) (start : ℕ) (from : ℕ → ℕ) (j : ℕ)
+    → a ≡ getD l (start + j) 0
+    → a % 2 ≡ 0
+    → CarriedOut src
+    (halfStores a (from (4 * j)) (from (4 * j + step)) ++ halfStores (a + 2048) (from (4 * j + 3 - step)) (from (4 * j + 3)))
+    bank map bank′ map′
+    → CarriedOut src (splitTurn step l start from j) bank map bank′ map′
+split-turn a step l start from j e h p =
+    let up : a + 1 + 2048 ≡ a + 2048 + 1 = omega arith in
+    rw (← e, up) (exchanged _ _ _ _ (omega arith) p)
+
+-- they are the rule's, where of each four bytes the low half takes the first and the one a step on
+pub split-is : (t : LoadTile) (l : List ℕ) (start : ℕ) (from : ℕ → ℕ)
+    → concat (tab 2 (splitTurn (cond (eqb (t .fmt) 1) 2 1) l start from)) ≡ splitStores t l start from
+unfolding splitStores concat tab tabFrom
+split-is t l start from = go (eqb (t .fmt) 1)
+  where
+    byte : ℕ → List ℕ → List ℕ → List Store
+    byte i low high =
+        store (splitAt l start i) (from (getD low i 0))
+        ∷ store (splitAt l start i + 2048) (from (getD high i 0))
+        ∷ []
+
+    go : (b : Bool) → concat (tab 2 (splitTurn (cond b 2 1) l start from))
+        ≡ concat (tab 4 (λ i. byte i (cond b (0 ∷ 2 ∷ 4 ∷ 6 ∷ []) (0 ∷ 1 ∷ 4 ∷ 5 ∷ [])) (cond b (1 ∷ 3 ∷ 5 ∷ 7 ∷ []) (2 ∷ 3 ∷ 6 ∷ 7 ∷ []))))
+    go true = rw (add-zero (getD l (start + 0) 0), add-zero (getD l (start + 1) 0))
+    go false = rw (add-zero (getD l (start + 0) 0), add-zero (getD l (start + 1) 0))
+
+-- the two stores at place k of a word that goes to one half
+abbrev pub wholeTurn : List ℕ → ℕ → ℕ → (ℕ → ℕ) → ℕ → List Store
+wholeTurn l high o from k =
+    store (getD l k 0 + high) (from (2 * bitXor k o))
+    ∷ store (getD l k 0 + high + 1) (from (2 * bitXor k o + 1))
+    ∷ []
+
+-- the numbers of a word load, found
+pub record Found (t : LoadTile) (s row h f o : ℕ) : Type 0 where
+  pub half-is : h ≡ halfword t s
+  pub first-is : f ≡ firstSpot (base t row) h
+  pub odd-is : o ≡ oddSpot row
+
+module _ {t : LoadTile} {s row h f o : ℕ} (w : Found t s row h f o) where
+  pub spots : Spots f o
+  spots =
+      let x : ℕ = 4 * base t row + h in
+      let low : f % 4 ≡ bitAnd (x % 4) 1 = rw (w .first-is) (and-mod x 0x7fd 2) in
+      record {
+        first-in = omega (arith, w .first-is, and-le-r x 0x7fd);
+        first-low = omega (arith, low, and-le-r (x % 4) 1);
+        odd-in = omega (arith, w .odd-is);
+        odd-even = omega (arith, w .odd-is);
+      }
+
+  pub start-within : bitXor (bitAnd h 2) o ≤ 2
+  start-within = rw (w .odd-is) (start-below h (row % 2) (omega arith))
+
+  pub split-word : (from : ℕ → ℕ) → splits t ≡ true → splitStores t (list4 f o) (bitXor (bitAnd h 2) o) from ≡ wordStores t s row from
+  unfolding wordStores
+  split-word from e = rw (w .first-is, w .odd-is, w .half-is, e)
+
+  pub whole-word : (from : ℕ → ℕ) → splits t ≡ false → wholeStores (list4 f o) (upper f) o from ≡ wordStores t s row from
+  unfolding wordStores
+  whole-word from e = rw (w .first-is, w .odd-is, w .half-is, e)
+
+-- a word is eight stores
+pub word-length : (t : LoadTile) (s row : ℕ) (from : ℕ → ℕ) → length (wordStores t s row from) ≡ 8
+unfolding wordStores splitStores wholeStores concat tab tabFrom
+word-length t s row from = go (splits t)
+  where
+    h : ℕ
+    h = halfword t s
+
+    f : ℕ
+    f = firstSpot (base t row) h
+
+    o : ℕ
+    o = oddSpot row
+
+    go : (b : Bool) → length (cond b (splitStores t (list4 f o) (bitXor (bitAnd h 2) o) from) (wholeStores (list4 f o) (upper f) o from)) ≡ 8
+    go true = refl
+    go false = refl

@@ -1,0 +1,44 @@
+-- Rows of entries: their lengths, and the stores of an entry.
+use mathlib.Core.Path.{_≡_, sym, _∙_}
+use mathlib.Core.List.{List, [], _∷_}
+use Prim.Native.Nat.{ℕ, _+_, _*_, _%_, _≤_}
+use native.Mathlib.Nat.{add-zero, add-assoc, mul-assoc, mul-left-comm}
+use native.Mathlib.Omega.{arith}
+use lib.ListN.{length}
+use Rattle.rules.specs.Base.{tab, tabFrom, concat}
+use Rattle.rules.specs.Load.{Store, store, LoadTile, entryStores, entryRow}
+use Rattle.rules.proofs.Tables.{length-tab}
+use Rattle.tmem.specs.Part.{halfStores}
+use Rattle.tmem.proofs.Carry.{table-length}
+
+-- rows of entries, by their lengths
+pub entry-length : (t : LoadTile) (stride row i : ℕ) → length (entryStores t stride row i) ≡ 8
+unfolding entryStores
+entry-length t stride row i = length-tab 8 _
+
+pub entry-row-length : (t : LoadTile) (count stride row : ℕ) → length (entryRow t count stride row) ≡ count * 8
+unfolding entryRow
+entry-row-length t count stride row = table-length _ 8 (entry-length t stride row) count
+
+-- four lines of bytes a row, and an entry's eight bytes
+pub lines-down : (r l : ℕ) → r * (32 * l) ≡ 32 * r * l
+lines-down r l = mul-left-comm r 32 l ∙ sym (mul-assoc 32 r l)
+
+pub entry-within : (a r l i : ℕ) → (8 * a + 32 * r * l + 8 * i) % 4096 + 8 ≤ 4096
+entry-within a r l i = omega (arith, mul-assoc 32 r l)
+
+pub entry-even : (a r l i : ℕ) → (8 * a + 32 * r * l + 8 * i) % 4096 % 2 ≡ 0
+entry-even a r l i = omega (arith, mul-assoc 32 r l)
+
+pub entry-at : (t : LoadTile) (stride r i at : ℕ) → at ≡ (8 * t .tmem-addr + 32 * r * t .line + 8 * i) % 4096
+    → tab 8 (λ k. store (at + k) (r * stride + 2 * i + k % 2)) ≡ entryStores t stride r i
+unfolding entryStores
+entry-at t stride r i at e = rw e
+
+-- its halfwords, four times the same pair
+abbrev pub entryTurn : ℕ → ℕ → ℕ → List Store
+entryTurn at source k = halfStores (at + 2 * k) source (source + 1)
+
+pub entry-is : (at source : ℕ) → concat (tab 4 (entryTurn at source)) ≡ tab 8 (λ k. store (at + k) (source + k % 2))
+unfolding concat tab tabFrom
+entry-is at source = rw (add-zero source, add-assoc at 0 1, add-assoc at 2 1, add-assoc at 4 1, add-assoc at 6 1)

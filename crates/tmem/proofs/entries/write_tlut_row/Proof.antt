@@ -1,0 +1,106 @@
+-- `tmem::entries::write_tlut_row` carries out the entries of a row, one after the other. Assumes nothing.
+use mathlib.Core.Path.{_≡_, _∙_, sym}
+use Prim.Native.Nat.{_+_, _-_, _*_, _%_, _≤_}
+use native.Mathlib.Omega.{arith}
+use Rattle.rules.specs.Load.{entryStores, entryRow}
+use Rattle.tmem.specs.Part.{loadOf}
+use Rattle.tmem.proofs.Carry.{Counted, begin-count, next-count, finish-count, count-within}
+use Rattle.tmem.proofs.Indices.{product-within}
+use Rattle.tmem.proofs.Rows.{entry-length, entry-within, entry-even, entry-at}
+use Rattle.tmem.proofs.entries.write_tlut_row.Statement.{statement}
+use Rattle.tmem.proofs.entries.write_tlut_row.Tie as tie
+
+abbrev Inv-loop : tie.InvT-loop
+Inv-loop bank₀ written₀ src tile count stride row stores₀ i₀ bank written stores i =
+    Counted count (entryStores (loadOf tile) stride row) src bank₀ written₀ i bank written stores
+
+abbrev μ-loop : tie.MeasureT-loop
+μ-loop bank₀ written₀ src tile count stride row stores₀ i₀ bank written stores i = count - i
+
+source-within : (c : tie.In-loop Inv-loop μ-loop) → let a = c .before .before .before .before .before .args in a .row * a .stride ≤ 1023 * 65535
+source-within c =
+    let s = c .before .before .before .before .before in
+    product-within 1023 65535 (s .args .row) (s .args .stride) (omega (arith, s)) (omega (arith, s))
+
+count-fits : (c : tie.In-loop Inv-loop μ-loop) → c .before .loop .stores + 8 ≤ 1024 * 8
+count-fits c =
+    let s = c .before .before .before .before .before in
+    count-within 8 1024 8 (entry-length _ _ _) (s .pre .1 .1 .0) (omega arith) (c .before .loop .inv) (c .loop-test .taken)
+
+loop-holds : tie.Need-loop-holds Inv-loop μ-loop
+loop-holds c = begin-count (c .before .before .before .pre .0)
+
+entry-addr-requires : tie.Need-entry-addr-requires Inv-loop μ-loop
+entry-addr-requires c κs =
+    let s = c .before .before .before .before .before in
+    (s .pre .1 .0, (s .pre .1 .1 .1 .1, omega (arith, s)))
+
+mul-source : tie.Need-mul-source Inv-loop μ-loop
+mul-source c = omega (arith, source-within (c .before))
+
+mul-source-2 : tie.Need-mul-source-2 Inv-loop μ-loop
+mul-source-2 c = omega arith
+
+add-source : tie.Need-add-source Inv-loop μ-loop
+add-source c = omega (arith, source-within (c .before))
+
+write-tlut-entry-requires : tie.Need-write-tlut-entry-requires Inv-loop μ-loop
+write-tlut-entry-requires c κs =
+    let e = c .before .before in
+    let d = e .before in
+    let a = d .before .before .before .before .before .args in
+    let room : e .entry-addr .result .0 + 8 ≤ 4096 = rw (e .entry-addr .ensures) (entry-within (a .tile .«tmem_addr» .0) (a .row) (a .tile .line .0) (d .before .loop .i)) in
+    let even : e .entry-addr .result .0 % 2 ≡ 0 = rw (e .entry-addr .ensures) (entry-even (a .tile .«tmem_addr» .0) (a .row) (a .tile .line .0) (d .before .loop .i)) in
+    (d .before .loop .inv .turn .lent, ((room, even), omega (arith, source-within d)))
+
+add-stores : tie.Need-add-stores Inv-loop μ-loop
+add-stores c =
+    let d = c .before .before .before .before in
+    omega (arith, count-fits (d .before .before .before .before), d .write-tlut-entry .ensures .1)
+
+add-i : tie.Need-add-i Inv-loop μ-loop
+add-i c = let d = c .before .before .before .before in omega (arith, d .before .before .before .before)
+
+loop-less : tie.Need-loop-less Inv-loop μ-loop
+loop-less c = omega arith
+
+loop-again : tie.Need-loop-again Inv-loop μ-loop
+loop-again c =
+    let d = c .before .before .before .before in
+    let e = d .before .before .before in
+    let l = e .before in
+    let a = l .before .before .before .before .before .args in
+    let i = l .before .loop .i in
+    next-count (l .before .loop .inv) (l .loop-test .taken)
+    (rw (← entry-at (loadOf (a .tile)) (a .stride) (a .row) i _ (e .entry-addr .ensures)) (d .write-tlut-entry .ensures .0))
+    (d .write-tlut-entry .ensures .1 ∙ sym (entry-length (loadOf (a .tile)) (a .stride) (a .row) i))
+
+same-length : tie.Need-same-length Inv-loop μ-loop
+same-length c = omega arith
+
+same-length-2 : tie.Need-same-length-2 Inv-loop μ-loop
+same-length-2 c = omega arith
+
+returns : tie.Need-returns Inv-loop μ-loop
+unfolding entryRow
+returns c = finish-count (c .before .loop .inv) (c .loop-test .left)
+
+pub write-tlut-row-spec : {M : Type 1} → statement M
+write-tlut-row-spec =
+    tie.close
+    (tie.spec
+    Inv-loop
+    μ-loop
+    loop-holds
+    entry-addr-requires
+    mul-source
+    mul-source-2
+    add-source
+    write-tlut-entry-requires
+    add-stores
+    add-i
+    loop-less
+    loop-again
+    same-length
+    same-length-2
+    returns)

@@ -1,0 +1,82 @@
+-- `tmem::word::write_load_word` is one of the two shapes, by the rule's test, and either is eight stores. Assumes nothing.
+use mathlib.Core.Path.{refl, sym}
+use Prim.Native.Nat.{_*_, _%_}
+use native.Mathlib.Omega.{arith}
+use Rattle.tmem.specs.Part.{loadOf}
+use Rattle.tmem.proofs.Places.{Found, spots, start-within, split-word, whole-word, word-length}
+use borrow.Author.Needs.{needs}
+use Rattle.tmem.proofs.word.write_load_word.Statement.{statement}
+use Rattle.tmem.proofs.word.write_load_word.Tie as tie
+
+-- the word's numbers, once they are found
+found : (c : tie.After-first-halfword) → let a = c .before .before .before .before .before .before .args in
+    Found (loadOf (a .tile)) (a .s) (a .t) (c .before .before .column-halfword .result) (c .first-halfword .result) (a .t % 2 * 2)
+found c =
+    record {
+      half-is = c .before .before .column-halfword .ensures;
+      first-is = rw (← c .before .row-word .ensures) (c .first-halfword .ensures);
+      odd-is = refl;
+    }
+
+column-halfword-requires : tie.Need-column-halfword-requires
+column-halfword-requires c κs = search needs
+
+row-word-requires : tie.Need-row-word-requires
+row-word-requires c κs = search needs
+
+first-halfword-requires : tie.Need-first-halfword-requires
+first-halfword-requires c κs = search needs
+
+mul-odd : tie.Need-mul-odd
+mul-odd c = omega (arith, spots (found c) .odd-in)
+
+write-split-word-requires : tie.Need-write-split-word-requires
+write-split-word-requires c κs =
+    let d = c .before .before .before .before .before .before in
+    (d .before .before .before .before .before .before .pre .0, (spots (found d), (start-within (found d), omega arith)))
+
+same-length : tie.Need-same-length
+same-length c = search needs
+
+same-length-2 : tie.Need-same-length-2
+same-length-2 c = search needs
+
+returns : tie.Need-returns
+returns c =
+    let d = c .before .before .before .before in
+    let e = d .before .before .before in
+    (rw (← split-word (found (e .before .before .before .before)) _ (e .if1 .taken)) (d .write-split-word .ensures), sym (word-length _ _ _ _))
+
+write-whole-word-requires : tie.Need-write-whole-word-requires
+write-whole-word-requires c κs =
+    let d = c .before .before .before .before .before .before in
+    (d .before .before .before .before .before .before .pre .0, (spots (found d), omega arith))
+
+same-length-3 : tie.Need-same-length-3
+same-length-3 c = search needs
+
+same-length-4 : tie.Need-same-length-4
+same-length-4 c = search needs
+
+returns-2 : tie.Need-returns-2
+returns-2 c =
+    let d = c .before .before .before .before in
+    let e = d .before .before .before in
+    (rw (← whole-word (found (e .before .before .before .before)) _ (e .if1 .left)) (d .write-whole-word .ensures), sym (word-length _ _ _ _))
+
+pub write-load-word-spec : {M : Type 1} → statement M
+write-load-word-spec =
+    tie.close
+    (tie.spec
+    column-halfword-requires
+    row-word-requires
+    first-halfword-requires
+    mul-odd
+    write-split-word-requires
+    same-length
+    same-length-2
+    returns
+    write-whole-word-requires
+    same-length-3
+    same-length-4
+    returns-2)

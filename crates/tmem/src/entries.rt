@@ -1,0 +1,107 @@
+// Rows of a lookup table's entries, each pair of bytes four times over.
+ghost use mathlib.Core.Path.{_≡_};
+ghost use Prim.Native.Nat.{_+_, _*_, _%_, _<_, _≤_};
+ghost use lib.ListN.{length};
+ghost use Rattle.rules.specs.Base.{tab};
+ghost use Rattle.rules.specs.Tile.{bankSize};
+ghost use Rattle.rules.specs.Load.{store, entryRow, rowStores};
+ghost use Rattle.tmem.specs.Part.{loadOf, Ranged, Lent, CarriedOut};
+use crate::bank::Bank;
+use crate::place::LoadTile;
+use crate::store::store_halfword;
+use rdp::units::ByteAddr;
+use rdp::units::LineWords;
+
+// The bytes from row to row: four lines.
+fn four_lines(line: LineWords) -> usize
+    ensures { λ r. ⌜ r ≡ 32 * line .0 ⌝ }
+{
+    4 * line.bytes().0
+}
+
+// The byte at which entry i of a row starts.
+fn entry_addr(tile: LoadTile, row: usize, i: usize) -> ByteAddr
+    requires { ⌜ Ranged (loadOf tile) ⌝ }
+    requires { ⌜ row < 1024 ⌝ }
+    requires { ⌜ i < 1024 ⌝ }
+    ensures { λ r. ⌜ r .0 ≡ (8 * tile .«tmem_addr» .0 + 32 * row * tile .line .0 + 8 * i) % bankSize ⌝ }
+{
+    let word = tile.tmem_addr;
+    let line = tile.line;
+    let base = word.bytes().0;
+    let at = base + row * four_lines(line) + 8 * i;
+    ByteAddr(at & Bank::MASK8)
+}
+
+// An entry's pair of bytes, four times over; it answers its count of stores.
+fn write_tlut_entry(
+    bank: &mut [u8],
+    written: &mut [u8],
+    src: &[u8],
+    at: ByteAddr,
+    source: usize,
+) -> u32
+    requires { ⌜ Lent (now bank) (now written) ⌝ }
+    requires { ⌜ (at .0 + 8 ≤ bankSize) × (at .0 % 2 ≡ 0) ⌝ }
+    requires { ⌜ source < 1024 * 65536 ⌝ }
+    ensures { λ _. ⌜ CarriedOut (now (src .entry)) (tab 8 (λ k. store (at .0 + k) (source + k % 2))) (now (bank .entry)) (now (written .entry)) (now (bank .exit)) (now (written .exit)) ⌝ }
+    ensures { λ r. ⌜ r ≡ 8 ⌝ }
+{
+    for k in 0..4 {
+        let to = at.0 + 2 * k;
+        store_halfword(bank, written, src, ByteAddr(to), source, source + 1);
+    }
+    8
+}
+
+// The entries of a row; it answers its count of stores.
+fn write_tlut_row(
+    bank: &mut [u8],
+    written: &mut [u8],
+    src: &[u8],
+    tile: LoadTile,
+    count: usize,
+    stride: usize,
+    row: usize,
+) -> u32
+    requires { ⌜ Lent (now bank) (now written) ⌝ }
+    requires { ⌜ Ranged (loadOf tile) ⌝ }
+    requires { ⌜ count ≤ 1024 ⌝ }
+    requires { ⌜ stride ≤ 65535 ⌝ }
+    requires { ⌜ row < 1024 ⌝ }
+    ensures { λ _. ⌜ CarriedOut (now (src .entry)) (entryRow (loadOf tile) count stride row) (now (bank .entry)) (now (written .entry)) (now (bank .exit)) (now (written .exit)) ⌝ }
+    ensures { λ r. ⌜ r ≡ length (entryRow (loadOf tile) count stride row) ⌝ }
+{
+    let mut stores = 0u32;
+    for i in 0..count {
+        let at = entry_addr(tile, row, i);
+        let source = row * stride + 2 * i;
+        stores = stores + write_tlut_entry(bank, written, src, at, source);
+    }
+    stores
+}
+
+// The rows of entries; it answers its count of stores.
+pub(crate) fn write_tlut_rows(
+    bank: &mut [u8],
+    written: &mut [u8],
+    src: &[u8],
+    tile: LoadTile,
+    count: usize,
+    rows: usize,
+    stride: usize,
+) -> u32
+    requires { ⌜ Lent (now bank) (now written) ⌝ }
+    requires { ⌜ Ranged (loadOf tile) ⌝ }
+    requires { ⌜ count ≤ 1024 ⌝ }
+    requires { ⌜ rows ≤ 1024 ⌝ }
+    requires { ⌜ stride ≤ 65535 ⌝ }
+    ensures { λ _. ⌜ CarriedOut (now (src .entry)) (rowStores (loadOf tile) count rows stride) (now (bank .entry)) (now (written .entry)) (now (bank .exit)) (now (written .exit)) ⌝ }
+    ensures { λ r. ⌜ r ≡ length (rowStores (loadOf tile) count rows stride) ⌝ }
+{
+    let mut stores = 0u32;
+    for row in 0..rows {
+        stores = stores + write_tlut_row(bank, written, src, tile, count, stride, row);
+    }
+    stores
+}

@@ -1,0 +1,81 @@
+// A run of word loads, which block, tile and TLUT loads share.
+ghost use mathlib.Core.Path.{_≡_};
+ghost use Prim.Native.Nat.{_<_, _≤_, _^_};
+ghost use lib.ListN.{length};
+ghost use Rattle.tmem.specs.Part.{loadOf, Ranged, Lent, CarriedOut};
+ghost use Rattle.tmem.specs.Run.{Paced, wordAt, runStores};
+use crate::place::LoadTile;
+use crate::word::write_load_word;
+
+// How a run goes on from word to word.
+pub(crate) struct Run {
+    // The columns of a word.
+    pub(crate) columns: usize,
+    // The first word's row, and how many 2,048ths of a row a word advances.
+    pub(crate) row: usize,
+    pub(crate) dxt: usize,
+    // The first word's place in the source, and how many bytes a word advances.
+    pub(crate) place: usize,
+    pub(crate) advance: usize,
+    // One pair of source bytes fills all lanes of a word.
+    pub(crate) replicate: bool,
+}
+
+// The dxt that advances a whole row a word.
+const DXT_SWAP: usize = 0x800;
+
+// The column, row and source place of a word.
+struct WordAt {
+    s: usize,
+    t: usize,
+    source: usize,
+}
+
+impl Run {
+    // Where word w of the run stands.
+    fn word(self, w: usize) -> WordAt
+        requires { ⌜ Paced self ⌝ }
+        requires { ⌜ w < 2048 ⌝ }
+        ensures { λ r. ⌜ r ≡ wordAt self w ⌝ }
+        ensures { λ r. ⌜ (r .t < 4096) × (r .source < 2 ^ 32) ⌝ }
+    {
+        let s = w * self.columns;
+        let t = self.row + w * self.dxt / DXT_SWAP;
+        let source = self.place + w * self.advance;
+        WordAt { s, t, source }
+    }
+}
+
+// The words of a run, one after the other; it answers its count of stores.
+pub(crate) fn write_words(
+    bank: &mut [u8],
+    written: &mut [u8],
+    src: &[u8],
+    tile: LoadTile,
+    run: Run,
+    words: usize,
+) -> u32
+    requires { ⌜ Lent (now bank) (now written) ⌝ }
+    requires { ⌜ Ranged (loadOf tile) ⌝ }
+    requires { ⌜ Paced run ⌝ }
+    requires { ⌜ words ≤ 2048 ⌝ }
+    ensures { λ _. ⌜ CarriedOut (now (src .entry)) (runStores (loadOf tile) run words) (now (bank .entry)) (now (written .entry)) (now (bank .exit)) (now (written .exit)) ⌝ }
+    ensures { λ r. ⌜ r ≡ length (runStores (loadOf tile) run words) ⌝ }
+{
+    let mut count = 0u32;
+    for word in 0..words {
+        let at = run.word(word);
+        count = count
+            + write_load_word(
+                bank,
+                written,
+                src,
+                tile,
+                at.s,
+                at.t,
+                at.source,
+                run.replicate,
+            );
+    }
+    count
+}

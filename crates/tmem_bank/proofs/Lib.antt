@@ -1,3 +1,0 @@
--- Laws that the proofs of the written marks cite.
-pub mod Again
-pub mod Halfwords
