@@ -8,11 +8,10 @@ use lib.Dec.{eqb}
 use lib.ListN.{getD}
 use Rattle.rules.specs.Key.{Bytes}
 use Rattle.rules.specs.Tile.{Tile}
-use Rattle.rules.specs.Texdec.{Format, rgba16, rgba32, ci4, ci8, ci16, ia4, ia8, ia16, i4, i8, unknown, formatOf, tlut, nibble}
+use Rattle.rules.specs.Texdec.{Format, rgba16, rgba32, ci4, ci8, ci16, ia4, ia8, ia16, i4, i8, unknown, formatOf, tlut, nibble, indexPart}
 use Rattle.rules.specs.Reading.{Reading, trail, upTo}
 use Rattle.rules.specs.Sampling.{flag}
 use Rattle.rules.specs.Picture.{address, direct, paletted, index, texel, plainRow, plain, lookupRow, lookup, picture}
-use Rattle.texdec.specs.Palette.{indexPart}
 use Rattle.texdec.proofs.Palettes.{by-part, part-small}
 use Rattle.rules.proofs.Maps.{Below}
 use Rattle.rules.proofs.Readings.{trail-then}

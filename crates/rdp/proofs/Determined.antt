@@ -10,7 +10,8 @@ use Rattle.rules.proofs.Refused.{determined}
 use Rattle.rdp.specs.declared.answer.Answer.{Answer}
 use Rattle.rdp.specs.declared.answer.YesAnswer.{YesAnswer}
 use Rattle.rdp.specs.declared.answer.SamplingAnswer.{SamplingAnswer}
-use Rattle.rdp.specs.View.{answered, yesAnswered, samplingAnswered, refusalAnswered}
+use Rattle.rdp.specs.declared.answer.TextAnswer.{TextAnswer}
+use Rattle.rdp.specs.View.{answered, yesAnswered, samplingAnswered, textAnswered, refusalAnswered}
 
 -- number k of an outcome
 number : ℕ → Outcome → ℕ
@@ -34,6 +35,13 @@ unfolding number
 sampling-determined o r s p q =
     let e : samplingAnswered r ≡ samplingAnswered s = determined p q in
     λ i. record { refusal = e i .refusal; flag = number 0 (e i); width = number 1 (e i); height = number 2 (e i) }
+
+pub text-determined : (o : Outcome) (r s : TextAnswer) (l m : List (List ℕ)) → textAnswered r l ≡ o → textAnswered s m ≡ o
+    → (r ≡ s) × (l ≡ m)
+unfolding number
+text-determined o r s l m p q =
+    let e : textAnswered r l ≡ textAnswered s m = determined p q in
+    ((λ i. record { refusal = e i .refusal; end = number 0 (e i) }), ap (λ o. o .buffers) e)
 
 pub refusal-determined : (o : Outcome) (r s : ℕ) (l m : List (List ℕ)) → refusalAnswered r l ≡ o → refusalAnswered s m ≡ o
     → (r ≡ s) × (l ≡ m)

@@ -7,6 +7,7 @@ use Rattle.rdp.specs.declared.tile.TileDescriptor.{TileDescriptor}
 use Rattle.rdp.specs.declared.answer.Answer.{Answer}
 use Rattle.rdp.specs.declared.answer.YesAnswer.{YesAnswer}
 use Rattle.rdp.specs.declared.answer.SamplingAnswer.{SamplingAnswer}
+use Rattle.rdp.specs.declared.answer.TextAnswer.{TextAnswer}
 
 -- the same fields, with the units' numbers
 abbrev pub tileOf : TileDescriptor → Tile
@@ -34,6 +35,9 @@ yesAnswered r = record { refusal = r .refusal; numbers = r .yes ∷ []; buffers 
 
 abbrev pub samplingAnswered : SamplingAnswer → Outcome
 samplingAnswered r = record { refusal = r .refusal; numbers = r .flag ∷ r .width ∷ r .height ∷ []; buffers = [] }
+
+abbrev pub textAnswered : TextAnswer → List (List ℕ) → Outcome
+textAnswered r left = record { refusal = r .refusal; numbers = r .end ∷ []; buffers = left }
 
 -- the answer of a call that has no number beside its refusal
 abbrev pub refusalAnswered : ℕ → List (List ℕ) → Outcome

@@ -22,3 +22,9 @@ pub struct SamplingAnswer {
     pub width: u32,
     pub height: u32,
 }
+
+// Where a text that was written into a lent buffer ends.
+pub struct TextAnswer {
+    pub refusal: u32,
+    pub end: usize,
+}

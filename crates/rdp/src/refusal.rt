@@ -15,8 +15,8 @@ pub const LOAD: u32 = 4;
 // The pair of format and size is not accepted.
 pub const PAIR: u32 = 5;
 
-// The picture buffer is shorter than 4 bytes a texel.
-pub const PICTURE: u32 = 6;
+// The picture buffer is shorter than 4 bytes a texel, or a text's buffer than the longest text of its kind.
+pub const BUFFER: u32 = 6;
 
 // The trail is shorter than the count of reads.
 pub const TRAIL: u32 = 7;

@@ -4,10 +4,10 @@ use mathlib.Core.List.{List, [], _∷_, _++_}
 use Prim.Native.Nat.{ℕ, zero, suc, _+_, _*_, _/_, _%_}
 use lib.Dec.{eqb, ltb}
 use lib.ListN.{length, getD, take, drop}
-use Rattle.rules.specs.Base.{one, tab, concat}
+use Rattle.rules.specs.Base.{one, tab, concat, over}
 use Rattle.rules.specs.Tile.{Tile, bankSize}
 use Rattle.rules.specs.Sampling.{flag, texels}
-use Rattle.rules.specs.Refusal.{Outcome, first, call}
+use Rattle.rules.specs.Refusal.{_if_, Outcome, call}
 use Rattle.rules.specs.Calls.{pairTests, unknownPair}
 use Rattle.rules.specs.Key.{keptCount}
 
@@ -88,3 +88,32 @@ tail input = cond (eqb (length input % recordSize) 0) [] (lineText tornLine)
 
 unfoldable pub listing : List ℕ → List ℕ
 listing input = concat (tab (length input / recordSize) (λ i. lineText (recordLine (recordAt input i)))) ++ tail input
+
+-- The calls that write text into a lent buffer. One with less room than the longest text of its kind needs is refused with 6, as a
+-- picture's buffer is.
+
+-- the bytes of the longest number with one byte after it, and of the longest line
+abbrev pub numberRoom : ℕ
+numberRoom = 11
+
+abbrev pub lineRoom : ℕ
+lineRoom = 44
+
+-- a number's digits and a byte after them, written from a place on; their end is answered
+abbrev pub numberText : ℕ → ℕ → List ℕ
+numberText n after = decimal n ++ (after ∷ [])
+
+unfoldable pub numberCall : ℕ → ℕ → List ℕ → ℕ → Outcome
+numberCall n after out at =
+    call ((6 if ltb (length out) (at + numberRoom)) ∷ [])
+    ((at + length (numberText n after)) ∷ [])
+    (over (take at out ++ numberText n after) out ∷ [])
+    (out ∷ [])
+
+-- the lister's text for an input, written to the front; its length is answered
+unfoldable pub listCall : List ℕ → List ℕ → Outcome
+listCall input out =
+    call ((6 if ltb (length out) (lineRoom * (length input / recordSize + 1))) ∷ [])
+    (length (listing input) ∷ [])
+    (over (listing input) out ∷ [])
+    (out ∷ [])

@@ -5,7 +5,7 @@ use Prim.Native.Nat.{ℕ, zero, suc, _+_, _-_, _*_, _/_, _%_, _^_, min, max}
 use lib.Dec.{eqb, ltb, leb}
 use lib.ListN.{getD, replicate}
 use Rattle.rules.specs.Base.{odd, tab, concat, marks, isMarked, any}
-use Rattle.rules.specs.Tile.{Tile, mapSize, laneMapSize}
+use Rattle.rules.specs.Tile.{Tile, laneMapSize, freshMap}
 use Rattle.rules.specs.Texdec.{tlut}
 use Rattle.rules.specs.Sampling.{flag, repeats, isRgba32}
 use Rattle.rules.specs.Picture.{address}
@@ -71,7 +71,7 @@ reach t mode = elim (flag t mode) [ true ↦ reachWhole t mode | false ↦ reach
 
 -- "Reach maps, lane maps and keys are overwritten whole on success"
 unfoldable pub reachMap : Tile → ℕ → List ℕ
-reachMap t mode = marks (replicate mapSize 0) (reach t mode)
+reachMap t mode = marks freshMap (reach t mode)
 
 -- "A tile has a load if reach and the written map meet."
 unfoldable pub hasLoad : Tile → ℕ → List ℕ → Bool

@@ -5,7 +5,7 @@ use Prim.Native.Nat.{ℕ, _+_, _*_, _/_, _%_}
 use lib.Bits.{bitAnd, bitOr}
 use lib.Dec.{eqb, leb}
 use lib.ListN.{getD}
-use Rattle.rules.specs.Base.{any}
+use Rattle.rules.specs.Base.{any, tab}
 
 -- a lookup table is in use
 abbrev pub tlut : ℕ → Bool
@@ -117,3 +117,33 @@ i4Texel n = same4 (wide4 n)
 -- "high nibble for even x"
 abbrev pub nibble : ℕ → ℕ → ℕ
 nibble x b = cond (eqb (x % 2) 0) (b / 16) (b % 16)
+
+-- The part of its byte that an index is, by numbers that no pair has (4 times format, and size, is below 32): the whole of it, the
+-- nibble of its column, or the high nibble.
+abbrev pub wholeByte : ℕ
+wholeByte = 32
+
+abbrev pub columnNibble : ℕ
+columnNibble = 33
+
+abbrev pub highNibble : ℕ
+highNibble = 34
+
+-- "index is the byte, or for siz 0 .. nibble (high nibble for even x or fmt 1)"
+abbrev pub indexPart : ℕ → ℕ → ℕ
+indexPart fmt siz = cond (eqb siz 0) (cond (eqb fmt 1) highNibble columnNibble) wholeByte
+
+-- "or for siz 0 palette·16 + nibble"
+abbrev pub partIndex : ℕ → ℕ → ℕ → ℕ → ℕ
+partIndex part palette x v = cond (eqb part wholeByte) v (palette * 16 + nibble (cond (eqb part columnNibble) x 0) v)
+
+-- a ready texel is one number of 32 bits: its four channels, the lowest first, and the number of four channels
+abbrev pub channels : ℕ → List ℕ
+channels v = (v % 256) ∷ (v / 256 % 256) ∷ (v / 65536 % 256) ∷ (v / 16777216 % 256) ∷ []
+
+abbrev pub ready : List ℕ → ℕ
+ready l = getD l 3 0 * 16777216 + getD l 2 0 * 65536 + getD l 1 0 * 256 + getD l 0 0
+
+-- "IA8 has a table of 256 ready four-byte texels"
+unfoldable pub ia8Table : List ℕ
+ia8Table = tab 256 (λ b. ready (ia8Texel b))

@@ -1,7 +1,9 @@
 -- The tile record, and the ranges of all numbers: "Numbers that bound everything".
 use mathlib.Core.Bool.{Bool, true, false, cond, _||_}
+use mathlib.Core.List.{List}
 use Prim.Native.Nat.{ℕ, _≤_}
 use lib.Dec.{ltb}
+use lib.ListN.{replicate}
 
 -- "Bank 4,096 bytes; palette base 2,048. MASK8 and MASK16 are taken as 4,095 and 2,047."
 abbrev pub bankSize : ℕ
@@ -16,12 +18,23 @@ mask8 = 4095
 abbrev pub mask16 : ℕ
 mask16 = 2047
 
+-- the words of a bank: a word is eight bytes
+abbrev pub bankWords : ℕ
+bankWords = 512
+
 -- the bytes of a written or reach map, and of a lane map
 abbrev pub mapSize : ℕ
 mapSize = 512
 
 abbrev pub laneMapSize : ℕ
 laneMapSize = 32
+
+-- "A fresh bank is all zero with no byte marked written."
+abbrev pub freshBank : List ℕ
+freshBank = replicate bankSize 0
+
+abbrev pub freshMap : List ℕ
+freshMap = replicate mapSize 0
 
 pub record Tile : Type 0 where
   pub fmt : ℕ
@@ -35,6 +48,27 @@ pub record Tile : Type 0 where
   pub tmem-addr : ℕ
   pub width : ℕ
   pub height : ℕ
+
+-- a tile of its eleven numbers, in the order of the lister's record, which has the mode among them
+abbrev pub tileFrom : ℕ → ℕ → ℕ → ℕ → ℕ → ℕ → ℕ → ℕ → ℕ → ℕ → ℕ → Tile
+tileFrom fmt siz palette cms cmt masks maskt line tmem-addr width height =
+    record {
+      fmt = fmt;
+      siz = siz;
+      palette = palette;
+      cms = cms;
+      cmt = cmt;
+      masks = masks;
+      maskt = maskt;
+      line = line;
+      tmem-addr = tmem-addr;
+      width = width;
+      height = height;
+    }
+
+-- a tile of the four numbers that a load takes; the others are 0
+abbrev pub loadTileFrom : ℕ → ℕ → ℕ → ℕ → Tile
+loadTileFrom fmt siz line tmem-addr = tileFrom fmt siz 0 0 0 0 0 line tmem-addr 0 0
 
 -- width and height go up to this
 abbrev pub sideLimit : ℕ

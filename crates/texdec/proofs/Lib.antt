@@ -1,6 +1,5 @@
--- What the proofs of texdec cite: a texel by its channels, the nibble's bound, the pairs by their sizes, and a table's rule.
-pub mod Channels
+-- What the proofs of texdec cite: the nibble's bound, the pairs by their sizes, an index by its part, and ready texels.
 pub mod Nibbles
 pub mod Palettes
+pub mod Ready
 pub mod Sizes
-pub mod Table

@@ -5,9 +5,8 @@ use Prim.Native.Nat.{ℕ, _+_, _*_, _<_, _≤_}
 use native.Mathlib.Omega.{arith}
 use lib.Dec.{eqb}
 use Rattle.rules.specs.Tile.{Tile}
-use Rattle.rules.specs.Texdec.{nibble}
+use Rattle.rules.specs.Texdec.{nibble, indexPart, partIndex}
 use Rattle.rules.specs.Picture.{index}
-use Rattle.texdec.specs.Palette.{indexPart, partIndex}
 use Rattle.texdec.proofs.Nibbles.{nibble-small}
 
 pub by-part : (t : Tile) (x v : ℕ) → partIndex (indexPart (t .fmt) (t .siz)) (t .palette) x v ≡ index t x v

@@ -3,7 +3,7 @@ ghost use mathlib.Core.Path.{_≡_};
 ghost use mathlib.Core.List.{[], _∷_};
 ghost use Rattle.rules.specs.Calls.{blockCall, tileCall, tlutCall};
 ghost use Rattle.rdp.specs.View.{answered};
-ghost use Rattle.tulonkasa.specs.Twelve.{loadTileFrom};
+ghost use Rattle.rules.specs.Tile.{loadTileFrom};
 use crate::tile::load_tile_from;
 use rdp::answer::Answer;
 

@@ -2,7 +2,7 @@
 ghost use mathlib.Core.Path.{_≡_};
 ghost use Rattle.rules.specs.Calls.{samplingCall};
 ghost use Rattle.rdp.specs.View.{samplingAnswered};
-ghost use Rattle.tulonkasa.specs.Twelve.{tileFrom};
+ghost use Rattle.rules.specs.Tile.{tileFrom};
 use crate::tile::tile_from;
 use rdp::answer::SamplingAnswer;
 

@@ -1,7 +1,7 @@
 // A tile of its numbers.
 ghost use mathlib.Core.Path.{_≡_};
 ghost use Rattle.rdp.specs.View.{tileOf};
-ghost use Rattle.tulonkasa.specs.Twelve.{tileFrom, loadTileFrom};
+ghost use Rattle.rules.specs.Tile.{tileFrom, loadTileFrom};
 use rdp::tile::TileDescriptor;
 use rdp::units::LineWords;
 use rdp::units::WordAddr;
