@@ -9,7 +9,8 @@ import tree
 # A tactic finds no proof of its goal.
 NO_PROOF = re.compile(
     r"`search`: no proof of `"
-    r"|`omega`: [^.]*?(?:does not follow from what it read|found no proof, and no values at which)"
+    r"|`omega`: (?:the goal|the part `[^`]*` of the goal) does not follow from what it read"
+    r"|`omega` found no proof, and no values at which "
     r"|`rw`: no occurrence of the path's (?:left|right) endpoint in "
     r"|`simp`: no equation of the list (?:has an instance|can be applied)"
     r"|`(?:rw|simp)` has no last argument, so what it leaves must be a path whose two ends are equal, and "
@@ -71,23 +72,21 @@ def one_statement(expected, found):
 
 
 def fits(expected, found):
-    """The proof of one type can be meant for the other: neither is a need, which stands for a place in the code; not only one is
-    a function; and neither is a bound, which can be handed over for another number and hold of both."""
-    heads = [head(expected), head(found)]
-    return heads.count("→") != 1 and not any(word in BOUNDS or word.startswith("Need-") for word in heads)
+    """The proof of one type can be meant for the other: neither is a need, which stands for a place in the code, nor a bound,
+    which can be handed over for another number and hold of both."""
+    return not any(word in BOUNDS or word.startswith("Need-") for word in (head(expected), head(found)))
 
 
 def values_differ(message):
     """Of a message that two types differ: they state one thing of different values."""
-    expected, found = TYPES.search(message).groups()
-    if (head(expected), head(found)) == ("T", "Unit"):
+    types, wholes, parts = TYPES.search(message), WHOLES.search(message), PARTS.search(message)
+    if (head(types[1]), head(types[2])) == ("T", "Unit"):
         return True  # a test that does not compute to true
-    wholes, parts = WHOLES.search(message), PARTS.search(message)
-    if not fits(expected, found) or wholes and not fits(*wholes.groups()):
+    if not fits(types[1], types[2]):
         return False
     if parts:
         return not is_type(parts[1]) and not is_type(parts[2])
-    return one_statement(*(wholes or TYPES.search(message)).groups())
+    return one_statement(*(wholes or types).groups())
 
 
 def unproved(message):
