@@ -1,5 +1,5 @@
 -- The stores of a word, a place at a time, and their number.
-use mathlib.Core.Path.{_≡_, refl}
+use mathlib.Core.Path.{_≡_, refl, ap, sym, _∙_}
 use mathlib.Core.Bool.{Bool, true, false, cond}
 use mathlib.Core.List.{List, [], _∷_, _++_}
 use Prim.Native.Nat.{ℕ, _+_, _-_, _*_, _%_, _≤_}
@@ -58,6 +58,15 @@ wholeTurn l high o from k =
     store (getD l k 0 + high) (from (2 * bitXor k o))
     ∷ store (getD l k 0 + high + 1) (from (2 * bitXor k o + 1))
     ∷ []
+
+-- the row's word may be wrapped at the bank's end: the bits that are left are those of 512 words
+pub first-wraps : (b h : ℕ) → firstSpot (b % 512) h ≡ firstSpot b h
+first-wraps b h =
+    let same : (4 * (b % 512) + h) % 2048 ≡ (4 * b + h) % 2048 = omega arith in
+    kept (4 * (b % 512) + h) ∙ ap (λ x. bitAnd x 0x7fd) same ∙ sym (kept (4 * b + h))
+  where
+    kept : (x : ℕ) → bitAnd x 0x7fd ≡ bitAnd (x % 2048) 0x7fd
+    kept x = omega (arith, and-mod x 0x7fd 11, and-le-r x 0x7fd)
 
 -- the numbers of a word load, found
 pub record Found (t : LoadTile) (s row h f o : ℕ) : Type 0 where
