@@ -9,7 +9,8 @@ use lib.Bits.{bitAnd, bitXor, and-le-r, and-mod}
 use lib.Dec.{eqb}
 use lib.ListN.{length, getD}
 use Rattle.rules.specs.Base.{tab, tabFrom, concat}
-use Rattle.rules.specs.Load.{Store, store, LoadTile, halfword, base, firstSpot, oddSpot, list4, splits, upper, splitAt, splitStores, wholeStores, wordStores}
+use Rattle.rules.specs.Load.{Store, store, LoadTile, halfword, base, firstSpot, oddSpot, list4, splits, upper}
+use Rattle.rules.specs.Load.{splitAt, splitStores, wholeStores, wordStores}
 use Rattle.tmem.specs.Part.{Spots, halfStores, CarriedOut}
 use Rattle.tmem.proofs.Carry.{exchanged}
 use Rattle.tmem.proofs.Indices.{start-below}
@@ -111,6 +112,7 @@ word-length t s row from = go (splits t)
     o : ℕ
     o = oddSpot row
 
-    go : (b : Bool) → length (cond b (splitStores t (list4 f o) (bitXor (bitAnd h 2) o) from) (wholeStores (list4 f o) (upper f) o from)) ≡ 8
+    go : (b : Bool)
+        → length (cond b (splitStores t (list4 f o) (bitXor (bitAnd h 2) o) from) (wholeStores (list4 f o) (upper f) o from)) ≡ 8
     go true = refl
     go false = refl

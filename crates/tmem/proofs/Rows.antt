@@ -27,13 +27,6 @@ entry-word a r l i =
     let whole : 8 * a + 32 * r * l + 8 * i ≡ 4096 * (row / 512) + 8 * (row % 512 + i) = omega (arith, mul-assoc 4 r l, mul-assoc 32 r l) in
     sym (ap (λ n. n % 4096) whole ∙ mul-add-mod-self-left 4096 (row / 512) (8 * (row % 512 + i)))
 
--- so that its eight bytes lie together
-pub entry-within : (a r l i : ℕ) → (8 * a + 32 * r * l + 8 * i) % 4096 + 8 ≤ 4096
-entry-within a r l i = omega (arith, mul-assoc 32 r l)
-
-pub entry-even : (a r l i : ℕ) → (8 * a + 32 * r * l + 8 * i) % 4096 % 2 ≡ 0
-entry-even a r l i = omega (arith, mul-assoc 32 r l)
-
 pub entry-at : (t : LoadTile) (stride r i at : ℕ) → at ≡ (8 * t .tmem-addr + 32 * r * t .line + 8 * i) % 4096
     → tab 8 (λ k. store (at + k) (r * stride + 2 * i + k % 2)) ≡ entryStores t stride r i
 unfolding entryStores

@@ -9,7 +9,8 @@ use native.Mathlib.Omega.{arith}
 use lib.ListN.{length}
 use lib.Dec.{eqb, ltb, leb, leb→le}
 use Rattle.rules.specs.Base.{tab, concat}
-use Rattle.rules.specs.Load.{Store, LoadTile, imageTile, blockStores, tileRow, entries, advance, steps, hardwareStores, rowStores, tlutStores}
+use Rattle.rules.specs.Load.{Store, LoadTile, imageTile, blockStores, tileRow}
+use Rattle.rules.specs.Load.{entries, advance, steps, hardwareStores, rowStores, tlutStores}
 use Rattle.rules.proofs.Computed.{computed}
 use Rattle.tmem.specs.declared.words.Run.{Run}
 use Rattle.tmem.specs.Run.{Paced, imageRun, runStores}

@@ -14,11 +14,12 @@ use rdp::units::WordAddr;
 // The lines from row to row.
 const LINES_A_ROW: u32 = 4;
 
-// The byte at which entry i of a row starts. An entry is one word.
+// The byte at which entry i of a row starts. An entry is one word, whose eight bytes lie together.
 fn entry_addr(tile: LoadTile, row: usize, i: usize) -> ByteAddr
     requires { ⌜ row < 1024 ⌝ }
     requires { ⌜ i < 1024 ⌝ }
     ensures { λ r. ⌜ r .0 ≡ (8 * tile .«tmem_addr» .0 + 32 * row * tile .line .0 + 8 * i) % bankSize ⌝ }
+    ensures { λ r. ⌜ (r .0 + 8 ≤ bankSize) × (r .0 % 2 ≡ 0) ⌝ }
 {
     let word = tile.tmem_addr;
     let line = tile.line;

@@ -31,7 +31,7 @@ impl Halfword {
         ByteAddr(2 * self.0)
     }
 
-    // The byte at which it starts in the lower half, or its likeness in the upper half does.
+    // The byte at which it starts, taken into the lower half.
     pub(crate) fn lower_byte(self) -> ByteAddr
         requires { ⌜ self .0 < 2048 ⌝ }
         ensures { λ r. ⌜ r .0 ≡ 2 * (self .0 % 1024) ⌝ }

@@ -73,7 +73,7 @@ pub(crate) fn row_word(tile: LoadTile, t: usize) -> WordAddr
     word.row(line, t as u32)
 }
 
-// All bits of a halfword's number but the second.
+// The bits of its number that a word's first halfword keeps: all but the second.
 const FIRST_MASK: usize = 0x7fd;
 
 // The first of the word's four halfwords.

@@ -1,4 +1,5 @@
 -- `tmem::entries::entry_addr` is the rule's address: its mask of twelve ones is a remainder. Assumes nothing.
+use native.Mathlib.Omega.{arith}
 use lib.Bits.{and-mask}
 use borrow.Author.Needs.{needs}
 use Rattle.tmem.proofs.Rows.{entry-word}
@@ -27,7 +28,9 @@ returns : tie.Need-returns
 returns c =
     let a = c .before .before .before .before .before .before .args in
     let first = c .before .before .before .row .ensures in
-    rw (and-mask _ 12, c .before .bytes .ensures, first) (entry-word (a .tile .«tmem_addr» .0) (a .row) (a .tile .line .0) (a .i))
+    let wrapped = and-mask (c .before .bytes .result .0) 12 in
+    (rw (wrapped, c .before .bytes .ensures, first) (entry-word (a .tile .«tmem_addr» .0) (a .row) (a .tile .line .0) (a .i)),
+    (omega (arith, wrapped), omega (arith, wrapped)))
 
 pub entry-addr-spec : {M : Type 1} → statement M
 entry-addr-spec = tie.close (tie.spec cast-row mul-row row-requires cast-t8 add-t9 bytes-requires returns)

@@ -7,7 +7,7 @@ use Rattle.rules.proofs.Tables.{length-tab}
 use Rattle.tmem.specs.Part.{loadOf}
 use Rattle.tmem.proofs.Carry.{Counting, begin-count, next-count, finish-count, count-within}
 use Rattle.tmem.proofs.Indices.{product-within}
-use Rattle.tmem.proofs.Rows.{entry-length, entry-within, entry-even, entry-at}
+use Rattle.tmem.proofs.Rows.{entry-length, entry-at}
 use Rattle.tmem.proofs.entries.write_tlut_row.Statement.{statement}
 use Rattle.tmem.proofs.entries.write_tlut_row.Tie as tie
 
@@ -18,7 +18,8 @@ Inv-loop bank₀ written₀ src tile count stride row stores₀ i₀ bank writte
 abbrev μ-loop : tie.MeasureT-loop
 μ-loop bank₀ written₀ src tile count stride row stores₀ i₀ bank written stores i = count - i
 
-source-within : (c : tie.In-loop Inv-loop μ-loop) → let a = c .before .before .before .before .before .args in a .row * a .stride ≤ 1023 * 65535
+source-within : (c : tie.In-loop Inv-loop μ-loop)
+    → let a = c .before .before .before .before .before .args in a .row * a .stride ≤ 1023 * 65535
 source-within c =
     let s = c .before .before .before .before .before in
     product-within 1023 65535 (s .args .row) (s .args .stride) (omega (arith, s)) (omega (arith, s))
@@ -44,10 +45,7 @@ write-tlut-entry-requires : tie.Need-write-tlut-entry-requires Inv-loop μ-loop
 write-tlut-entry-requires c κs =
     let e = c .before .before in
     let d = e .before in
-    let a = d .before .before .before .before .before .args in
-    let room : e .entry-addr .result .0 + 8 ≤ 4096 = rw (e .entry-addr .ensures) (entry-within (a .tile .«tmem_addr» .0) (a .row) (a .tile .line .0) (d .before .loop .i)) in
-    let even : e .entry-addr .result .0 % 2 ≡ 0 = rw (e .entry-addr .ensures) (entry-even (a .tile .«tmem_addr» .0) (a .row) (a .tile .line .0) (d .before .loop .i)) in
-    (d .before .loop .inv .turn .lent, ((room, even), omega (arith, source-within d)))
+    (d .before .loop .inv .turn .lent, (e .entry-addr .ensures .1, omega (arith, source-within d)))
 
 add-stores : tie.Need-add-stores Inv-loop μ-loop
 add-stores c =
@@ -68,7 +66,7 @@ loop-again c =
     let e = d .before .before .before in
     let l = e .before in
     let a = l .before .before .before .before .before .args in
-    let is = entry-at (loadOf (a .tile)) (a .stride) (a .row) (l .before .loop .i) _ (e .entry-addr .ensures) in
+    let is = entry-at (loadOf (a .tile)) (a .stride) (a .row) (l .before .loop .i) _ (e .entry-addr .ensures .0) in
     next-count (l .before .loop .inv) (l .loop-test .taken) (rw (← is) (d .write-tlut-entry .ensures))
 
 same-length : tie.Need-same-length Inv-loop μ-loop
