@@ -28,9 +28,10 @@ returns : tie.Need-returns
 returns c =
     let a = c .before .before .before .before .before .before .args in
     let first = c .before .before .before .row .ensures in
-    let wrapped = and-mask (c .before .bytes .result .0) 12 in
-    (rw (wrapped, c .before .bytes .ensures, first) (entry-word (a .tile .«tmem_addr» .0) (a .row) (a .tile .line .0) (a .i)),
-    (omega (arith, wrapped), omega (arith, wrapped)))
+    let wrapped = and-mask (c .before .bytes .result .0) 12 in (
+      rw (wrapped, c .before .bytes .ensures, first) (entry-word (a .tile .«tmem_addr» .0) (a .row) (a .tile .line .0) (a .i)),
+      (omega (arith, wrapped), omega (arith, wrapped)),
+    )
 
 pub entry-addr-spec : {M : Type 1} → statement M
 entry-addr-spec = tie.close (tie.spec cast-row mul-row row-requires cast-t8 add-t9 bytes-requires returns)
