@@ -14,7 +14,7 @@ use Rattle.rules.proofs.Loads.{stored-append, written-append, length-stored, le
 use Rattle.tmem.specs.Part.{Lent, CarriedOut, Counted}
 
 module _ {src : List ℕ} {bank map : List ℕ} where
-  pub none : CarriedOut src [] bank map bank map
+  none : CarriedOut src [] bank map bank map
   unfolding stored written marks
   none = record { bank-is = refl; map-is = refl }
 
@@ -29,7 +29,7 @@ module _ {src : List ℕ} {bank map : List ℕ} where
       }
 
   -- the lists of a table, and one more
-  pub one-more : (f : ℕ → List Store) (n : ℕ) {bank′ map′ bank″ map″ : List ℕ}
+  one-more : (f : ℕ → List Store) (n : ℕ) {bank′ map′ bank″ map″ : List ℕ}
       → CarriedOut src (concat (tab n f)) bank map bank′ map′
       → CarriedOut src (f n) bank′ map′ bank″ map″
       → CarriedOut src (concat (tab (n + 1) f)) bank map bank″ map″

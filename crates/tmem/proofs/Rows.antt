@@ -1,7 +1,7 @@
 -- Rows of entries: their lengths, and the stores of an entry.
 use mathlib.Core.Path.{_≡_, ap, sym, _∙_}
-use mathlib.Core.List.{List, [], _∷_}
-use Prim.Native.Nat.{ℕ, _+_, _*_, _/_, _%_, _≤_}
+use mathlib.Core.List.{List}
+use Prim.Native.Nat.{ℕ, _+_, _*_, _/_, _%_}
 use native.Mathlib.Nat.{add-zero, add-assoc, mul-assoc, mul-add-mod-self-left}
 use native.Mathlib.Omega.{arith}
 use lib.ListN.{length}

@@ -34,7 +34,7 @@ reached r w p h =
     }
 
 -- two tables whose entries are the same
-pub same-lists : (n : ℕ) {f g : ℕ → List Store} → ((w : ℕ) → f w ≡ g w) → concat (tab n f) ≡ concat (tab n g)
+same-lists : (n : ℕ) {f g : ℕ → List Store} → ((w : ℕ) → f w ≡ g w) → concat (tab n f) ≡ concat (tab n g)
 same-lists n e = ap (λ h. concat (tab n h)) (λ i w. e w i)
 
 -- "Block word w: s = w·(16 >> image size), t = w·dxt div 2,048, p = 8w."

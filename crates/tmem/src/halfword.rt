@@ -1,4 +1,4 @@
-// Halfwords of the bank, by their numbers: four to a word, two bytes each.
+// Halfwords of the bank: four to a word, two bytes each.
 ghost use mathlib.Core.Path.{_≡_};
 ghost use Prim.Native.Nat.{_*_, _%_, _<_, _≤_};
 ghost use Rattle.rules.specs.Tile.{paletteBase};
@@ -7,6 +7,7 @@ use crate::bank::Bank;
 use rdp::units::ByteAddr;
 use rdp::units::WordAddr;
 
+// A halfword, by its number.
 pub(crate) struct Halfword(pub(crate) usize);
 
 impl Halfword {

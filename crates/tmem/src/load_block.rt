@@ -1,5 +1,4 @@
 // A block load: words one after the other, whose row advances by dxt.
-ghost use mathlib.Core.Path.{_≡_};
 ghost use Prim.Native.Nat.{_≤_};
 ghost use Rattle.rules.specs.Load.{blockStores};
 ghost use Rattle.tmem.specs.Part.{loadOf, Lent, Counted};

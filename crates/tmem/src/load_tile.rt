@@ -1,5 +1,4 @@
 // A tile load: rows of words, each from its own place of the source.
-ghost use mathlib.Core.Path.{_≡_};
 ghost use Prim.Native.Nat.{_<_, _≤_};
 ghost use Rattle.rules.specs.Load.{tileRow, tileStores};
 ghost use Rattle.tmem.specs.Part.{loadOf, Lent, Counted};

@@ -1,6 +1,6 @@
 -- `tmem::entries::write_tlut_row` carries out the entries of a row, one after the other. Assumes nothing.
-use mathlib.Core.Path.{_≡_, _∙_}
-use Prim.Native.Nat.{_+_, _-_, _*_, _%_, _≤_}
+use mathlib.Core.Path.{_∙_}
+use Prim.Native.Nat.{_-_, _*_, _≤_}
 use native.Mathlib.Omega.{arith}
 use Rattle.rules.specs.Load.{entryStores, entryRow}
 use Rattle.rules.proofs.Tables.{length-tab}

@@ -1,6 +1,6 @@
 -- `tmem::entries::write_tlut_rows` carries out the rows of entries, one after the other. Assumes nothing.
 use mathlib.Core.Path.{_∙_}
-use Prim.Native.Nat.{_+_, _-_, _*_, _≤_}
+use Prim.Native.Nat.{_-_, _*_}
 use native.Mathlib.Omega.{arith}
 use Rattle.rules.specs.Load.{entryRow, rowStores}
 use Rattle.tmem.specs.Part.{loadOf}

@@ -1,6 +1,6 @@
 -- `tmem::load_tile::write_tile_rows` carries out the rows of a tile, one after the other. Assumes nothing.
 use mathlib.Core.Path.{_∙_}
-use Prim.Native.Nat.{_+_, _-_, _*_, _≤_}
+use Prim.Native.Nat.{_-_, _*_}
 use native.Mathlib.Omega.{arith}
 use Rattle.rules.specs.Load.{tileRow, tileStores}
 use Rattle.tmem.specs.Part.{loadOf}

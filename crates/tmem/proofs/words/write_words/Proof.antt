@@ -1,6 +1,6 @@
 -- `tmem::words::write_words` carries out the words of a run, one after the other. Assumes nothing.
 use mathlib.Core.Path.{_∙_}
-use Prim.Native.Nat.{_+_, _-_, _*_, _<_, _≤_}
+use Prim.Native.Nat.{_-_, _<_}
 use native.Mathlib.Omega.{arith}
 use Rattle.tmem.specs.Part.{loadOf}
 use Rattle.tmem.specs.Run.{runWord, runStores}
