@@ -1,7 +1,7 @@
 // One case: what its line calls for is run and shown.
 use crate::fields;
 use crate::show;
-use lane_check::lane;
+use reach::lane;
 use rdp::tile::TileDescriptor;
 
 // The reach of a tile in a map that was filled before: the refusal, the marks and their digest. Then has-load's answer where

@@ -20,8 +20,8 @@ Inv-loop written span words w₀ w =
 abbrev μ-loop : tie.MeasureT-loop
 μ-loop written span words w₀ w = words - w
 
-add-words : tie.Need-add-words Inv-loop μ-loop
-add-words c = search needs
+words-requires : tie.Need-words-requires Inv-loop μ-loop
+words-requires c κs = search needs
 
 loop-holds : tie.Need-loop-holds Inv-loop μ-loop
 loop-holds c = (omega arith, rw (cut-none (c .before .before .args .span)) (none-yet _ _))
@@ -74,7 +74,7 @@ span-meets-spec =
     (tie.spec
     Inv-loop
     μ-loop
-    add-words
+    words-requires
     loop-holds
     word-requires
     bits-requires

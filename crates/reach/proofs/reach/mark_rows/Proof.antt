@@ -32,8 +32,7 @@ loop-holds c = (omega arith, sym (marks-none _ _), c .before .before .before .pr
 of-row-requires : tie.Need-of-row-requires Inv-loop μ-loop
 of-row-requires c κs =
     let e = c .before .before .before .before in
-    let d = e .before .before in
-    (d .pre .1, (omega (arith, rows-le (tileOf (d .args .tile))), e .row-bytes .ensures))
+    (omega (arith, rows-le (tileOf (e .before .before .args .tile))), e .row-bytes .ensures)
 
 mark-span-requires : tie.Need-mark-span-requires Inv-loop μ-loop
 mark-span-requires c κs = (c .before .before .before .loop .inv .2, c .of-row .ensures .1)

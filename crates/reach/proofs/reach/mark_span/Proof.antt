@@ -19,8 +19,8 @@ Inv-loop map₀ span words w₀ map w =
 abbrev μ-loop : tie.MeasureT-loop
 μ-loop map₀ span words w₀ map w = words - w
 
-add-words : tie.Need-add-words Inv-loop μ-loop
-add-words c = search needs
+words-requires : tie.Need-words-requires Inv-loop μ-loop
+words-requires c κs = search needs
 
 loop-holds : tie.Need-loop-holds Inv-loop μ-loop
 loop-holds c =
@@ -71,7 +71,7 @@ mark-span-spec =
     (tie.spec
     Inv-loop
     μ-loop
-    add-words
+    words-requires
     loop-holds
     word-requires
     bits-requires

@@ -1,10 +1,10 @@
--- `lane_check::lane::pair` reads the rule's two bytes. Assumes nothing.
+-- `reach::lane::pair` reads the rule's two bytes. Assumes nothing.
 use mathlib.Core.Path.{_≡_}
 use Prim.Native.Nat.{_+_, _*_}
 use native.Mathlib.Omega.{arith}
 use borrow.Author.Needs.{needs}
-use Rattle.lane_check.proofs.lane.pair.Statement.{statement}
-use Rattle.lane_check.proofs.lane.pair.Tie as tie
+use Rattle.reach.proofs.lane.pair.Statement.{statement}
+use Rattle.reach.proofs.lane.pair.Tie as tie
 
 mul-at : tie.Need-mul-at
 mul-at c = search needs
