@@ -23,4 +23,4 @@ row-bytes-le t = omega arith
 
 pub rows-le : (t : Tile) → reachRows t ≤ bankSize
 unfolding reachRows rowPeriod
-rows-le t = omega (arith, div-le-self 4096 (2 ^ trailingZeros 12 (8 * t .line)))
+rows-le t = omega (arith, div-le-self bankSize (2 ^ trailingZeros 12 (8 * t .line)))

@@ -158,15 +158,31 @@ unfolding tabFrom
 tab-same i zero f g e = refl
 tab-same i (suc n) f g e = ap₂ _∷_ (e i (omega arith)) (tab-same (suc i) n f g (λ k h. e k (omega arith)))
 
--- a row starts at a whole word, and the rest of it is as far from there as the rule's is from the tile's start
-row-place : (low : Bool) (word line y x : ℕ) (o : Bool)
-    → address (bytesOf low) (8 * ((word + y * line) % bankWords)) o x ≡ address (bytesOf low) (8 * word) o (y * (8 * line) + x)
-row-place low word line y x o =
+-- byte x of a row, from the row's first word and from the tile's
+row-place : (low : Bool) (first word line y x : ℕ) (o : Bool) → first ≡ (word + y * line) % bankWords
+    → address (bytesOf low) (8 * first) o x ≡ address (bytesOf low) (8 * word) o (y * (8 * line) + x)
+row-place low first word line y x o f =
     let e : y * (8 * line) ≡ 8 * (y * line) = sym (mul-assoc y 8 line) ∙ ap (λ k. k * line) (mul-comm y 8) ∙ mul-assoc 8 y line in
     let at : 8 * (word + y * line) + swapOdd o x ≡ 8 * word + (8 * (y * line) + swapOdd o x) = omega arith in
-    rw (e, swap-word o (y * line) x, ← at) (wrapped-once low (word + y * line) (swapOdd o x))
+    rw (f, e, swap-word o (y * line) x, ← at) (wrapped-once low (word + y * line) (swapOdd o x))
 
 module _ (t : Tile) (mode : ℕ) where
+  -- addresses wrap at the palette; each stands for one in the upper half as well
+  abbrev lowHalf : Bool
+  lowHalf = tlut mode || isRgba32 (t .fmt) (t .siz)
+
+  abbrev bothHalves : Bool
+  bothHalves = ltb mode 2 && isRgba32 (t .fmt) (t .siz)
+
+  low-where-both : bothHalves ≡ true → lowHalf ≡ true
+  low-where-both = go (ltb mode 2) (tlut mode) (isRgba32 (t .fmt) (t .siz))
+    where
+      go : (a b c : Bool) → (a && c) ≡ true → (b || c) ≡ true
+      go a true c h = refl
+      go a false true h = refl
+      go true false false h = h
+      go false false false h = h
+
   -- a lookup as a span
   abbrev wholeSpan : Span
   wholeSpan =
@@ -175,8 +191,8 @@ module _ (t : Tile) (mode : ℕ) where
         bytes = modulus t mode;
         odd = false;
         sparse = false;
-        low = tlut mode || isRgba32 (t .fmt) (t .siz);
-        twice = ltb mode 2 && isRgba32 (t .fmt) (t .siz);
+        low = lowHalf;
+        twice = bothHalves;
       }
 
   pub whole-reached : reached wholeSpan ≡ reachWhole t mode
@@ -185,7 +201,7 @@ module _ (t : Tile) (mode : ℕ) where
       let n : placesIn false (modulus t mode) ≡ modulus t mode = omega arith in
       ap concat
       (ap (λ n. tabFrom 0 n (reachedAt wholeSpan)) n
-      ∙ tab-same 0 (modulus t mode) (reachedAt wholeSpan) (doubled t mode) (λ k h. ap (twin (wholeSpan .twice)) (at k (omega arith))))
+      ∙ tab-same 0 (modulus t mode) (reachedAt wholeSpan) (doubled t mode) (λ k h. ap (twin bothHalves) (at k (omega arith))))
     where
       at : (k : ℕ) → k < modulus t mode → (8 * 0 + 1 * k) % modulus t mode ≡ k
       at k h = let e : 8 * 0 + 1 * k ≡ k = omega arith in rw e (mod-eq-of-lt h)
@@ -198,8 +214,8 @@ module _ (t : Tile) (mode : ℕ) where
         bytes = rowBytes t;
         odd = odd y;
         sparse = tlut mode && leb 2 (t .siz);
-        low = tlut mode || isRgba32 (t .fmt) (t .siz);
-        twice = ltb mode 2 && isRgba32 (t .fmt) (t .siz);
+        low = lowHalf;
+        twice = bothHalves;
       }
 
   pub row-reached : (first : WordAddr) (y : ℕ) → first .0 ≡ (t .tmem-addr + y * t .line) % bankWords
@@ -207,26 +223,14 @@ module _ (t : Tile) (mode : ℕ) where
   unfolding reached reachedAt reachRow reachAt doubled twin tab
   row-reached first y e =
       ap concat
-      (tab-same 0 (xCount t mode) (reachedAt (rowSpan first y)) (reachAt t mode y) (λ i h. ap (twin (wholeSpan .twice)) (at (xStep t mode * i))))
-    where
-      at : (x : ℕ) → address (modulus t mode) (8 * first .0) (odd y) x ≡ address (modulus t mode) (8 * t .tmem-addr) (odd y) (y * (8 * t .line) + x)
-      at x = rw e (row-place (wholeSpan .low) (t .tmem-addr) (t .line) y x (odd y))
-
-  -- where addresses are doubled they wrap at the palette
-  low-where-twice : wholeSpan .twice ≡ true → wholeSpan .low ≡ true
-  low-where-twice = go (ltb mode 2) (tlut mode) (isRgba32 (t .fmt) (t .siz))
-    where
-      go : (a b c : Bool) → (a && c) ≡ true → (b || c) ≡ true
-      go a true c h = refl
-      go a false true h = refl
-      go true false false h = h
-      go false false false h = h
+      (tab-same 0 (xCount t mode) (reachedAt (rowSpan first y)) (reachAt t mode y)
+      (λ i h. ap (twin bothHalves) (row-place lowHalf (first .0) (t .tmem-addr) (t .line) y (xStep t mode * i) (odd y) e)))
 
   pub row-bounds : (first : WordAddr) (y : ℕ) → Bounds (rowSpan first y)
-  row-bounds first y = record { bytes = row-bytes-le t; twice = low-where-twice }
+  row-bounds first y = record { bytes = row-bytes-le t; twice = low-where-both }
 
   pub whole-bounds : Bounds wholeSpan
-  whole-bounds = record { bytes = go (wholeSpan .low); twice = low-where-twice }
+  whole-bounds = record { bytes = go lowHalf; twice = low-where-both }
     where
       go : (low : Bool) → bytesOf low ≤ bankSize
       go true = omega arith

@@ -15,9 +15,13 @@ use tmem::bank::Bank;
 // The bytes of a lane map: a bit for each slot, and a slot is eight bytes of the palette.
 const MAP_SIZE: usize = (Bank::SIZE - Bank::PALETTE_BASE) / 64;
 
-// What the second, third and fourth pair of a slot count in its number. The first counts 1.
+// What the second pair of a slot counts in its number, where the first counts 1.
 const SECOND: u64 = 0x1_0000;
+
+// The third.
 const THIRD: u64 = 0x1_0000_0000;
+
+// The fourth.
 const FOURTH: u64 = 0x1_0000_0000_0000;
 
 // A byte as a number that can be multiplied.

@@ -59,8 +59,10 @@ loop-less c = search needs
 loop-again : tie.Need-loop-again Inv-loop μ-loop
 loop-again c =
     let l = c .before .before .before .before .before in
-    let e = l .before .before .before .args in
-    (search needs, span-any (e .span) (l .loop .w) (omega arith) (e .written .now) ∙ rw (l .loop .inv .1, sym (found (c .before)) ∙ c .if1 .left))
+    let e = l .before .before .before .args in (
+      search needs,
+      span-any (e .span) (l .loop .w) (omega arith) (e .written .now) ∙ rw (l .loop .inv .1, sym (found (c .before)) ∙ c .if1 .left),
+    )
 
 returns-2 : tie.Need-returns-2 Inv-loop μ-loop
 unfolding reached
