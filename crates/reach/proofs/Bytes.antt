@@ -1,6 +1,6 @@
 -- Laws of one byte of a map: what several bits do at once, or where one of them is.
 use mathlib.Core.Path.{_≡_, refl, ap, sym, _∙_}
-use mathlib.Core.Bool.{Bool, true, false, _||_}
+use mathlib.Core.Bool.{false, _||_}
 use mathlib.Core.List.{List, [], _∷_}
 use Prim.Native.Nat.{ℕ, zero, suc, _+_, _-_, _*_, _/_, _%_, _^_, _<_, _≤_}
 use native.Mathlib.Omega.{arith}
@@ -8,7 +8,7 @@ use native.Mathlib.Decide.{ℕ-discrete}
 use native.Mathlib.Nat.{one-mul}
 use lib.Bits.{bitAnd, bitOr, and-step, or-step, or-shr, and-shr, or-zero-r, and-zero-r, and-le-r, or-add-and, and-high}
 use lib.Dec.{eqb}
-use lib.ListN.{getD, set}
+use lib.ListN.{getD}
 use lib.Pow.{pow-pos, pow-add, shl-exact}
 use Rattle.rules.specs.Base.{isMarked, marked}
 use Rattle.rules.proofs.Bits.{or-assoc}

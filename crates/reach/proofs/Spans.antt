@@ -15,7 +15,7 @@ use Rattle.rules.specs.Picture.{address, swapOdd}
 use Rattle.rules.specs.Reach.{modulus, xStep, xCount, doubled, rowBytes, reachAt, reachRow, reachWhole}
 use Rattle.rules.proofs.Computed.{agree-below}
 use Rattle.rdp.specs.declared.units.WordAddr.{WordAddr}
-use Rattle.reach.specs.Words.{ors, lowWords, twin, wordJoined, wordMeets}
+use Rattle.reach.specs.Words.{ors, twin, wordJoined, wordMeets}
 use Rattle.reach.proofs.Joined.{found-longer}
 use Rattle.reach.proofs.Words.{word-marks, word-any}
 use Rattle.reach.specs.declared.span.Span.{Span}

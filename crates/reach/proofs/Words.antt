@@ -27,7 +27,7 @@ module _ (J : List ℕ → ℕ → List ℕ) (none : (l : List ℕ) → J l 0 �
 -- where place k has what the test t finds in the bits h k
 module _ (p : ℕ → Bool) (t : ℕ → Bool) (none : t 0 ≡ false) (more : (a b : ℕ) → t (bitOr a b) ≡ (t a || t b))
     (f : ℕ → List ℕ) (h : ℕ → ℕ) (a : ℕ) where
-  pub part-any : (n : ℕ) → ((k : ℕ) → k < n → any p (f (a + k)) ≡ t (h k))
+  part-any : (n : ℕ) → ((k : ℕ) → k < n → any p (f (a + k)) ≡ t (h k))
       → any p (concat (tab (a + n) f)) ≡ (any p (concat (tab a f)) || t (ors n h))
   unfolding ors
   part-any zero e = rw (add-zero, none) (sym (or-false _))
