@@ -1,4 +1,4 @@
--- Laws that the proofs of the crate cite.
+-- Laws that the proofs of the crate cite, and the theorems of one answer.
 pub mod Within
 pub mod Joined
 pub mod Differ
@@ -9,3 +9,4 @@ pub mod Spans
 pub mod Reached
 pub mod Turned
 pub mod Lanes
+pub mod One
