@@ -11,7 +11,7 @@ use lib.Dec.{eqb}
 use lib.ListN.{getD}
 use lib.Pow.{pow-pos, pow-add, shl-exact}
 use Rattle.rules.specs.Base.{isMarked, marked}
-use Rattle.rules.proofs.Bits.{or-assoc}
+use Rattle.rules.proofs.Bits.{more-bits}
 use Rattle.reach.specs.Words.{joined, meets}
 use Rattle.reach.proofs.Differ.{differ, are-same, are-apart}
 
@@ -49,9 +49,7 @@ joined-none (x ∷ m) (suc w) = ap (λ l. x ∷ l) (joined-none m w)
 
 pub joined-more : (m : List ℕ) (w a b : ℕ) → joined (joined m w a) w b ≡ joined m w (bitOr a b)
 unfolding joined
-joined-more [] w a b = refl
-joined-more (x ∷ m) zero a b = ap (λ v. v ∷ m) (or-assoc x a b)
-joined-more (x ∷ m) (suc w) a b = ap (λ l. x ∷ l) (joined-more m w a b)
+joined-more m w a b = more-bits m w a b
 
 pub joined-swap : (m : List ℕ) (w v a b : ℕ) → (w ≡ v → ⊥) → joined (joined m w a) v b ≡ joined (joined m v b) w a
 unfolding joined
