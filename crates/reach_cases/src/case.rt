@@ -1,8 +1,8 @@
 // One case: what its line calls for is run and shown.
 use crate::fields;
 use crate::show;
-use lane_check::lane;
 use rdp::tile::TileDescriptor;
+use reach::lane;
 
 // The reach of a tile in a map that was filled before: the refusal, the marks and their digest. Then has-load's answer where
 // just the marked bytes are written.

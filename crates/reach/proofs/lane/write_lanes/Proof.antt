@@ -1,4 +1,4 @@
--- `lane_check::lane::write_lanes` writes byte after byte. The loop's invariant: the bytes below i are those of the lane map.
+-- `reach::lane::write_lanes` writes byte after byte. The loop's invariant: the bytes below i are those of the lane map.
 -- Assumes nothing.
 use mathlib.Core.Path.{_≡_, refl, sym, _∙_}
 use Prim.Native.Nat.{_-_, _≤_}
@@ -8,17 +8,18 @@ use lib.ListN.{length, take, length-set}
 use lib.Seq.{take-suc-set, take-all}
 use borrow.Author.Needs.{needs}
 use Rattle.rules.specs.Base.{tab, tabFrom}
+use Rattle.rules.specs.Tile.{laneMapSize}
 use Rattle.rules.proofs.Tables.{tab-more}
-use Rattle.lane_check.specs.Slots.{slotsByte}
-use Rattle.lane_check.proofs.Lanes.{lane-table}
-use Rattle.lane_check.proofs.lane.write_lanes.Statement.{statement}
-use Rattle.lane_check.proofs.lane.write_lanes.Tie as tie
+use Rattle.reach.specs.Slots.{slotsByte}
+use Rattle.reach.proofs.Lanes.{lane-table}
+use Rattle.reach.proofs.lane.write_lanes.Statement.{statement}
+use Rattle.reach.proofs.lane.write_lanes.Tie as tie
 
 abbrev Inv-loop : tie.InvT-loop
-Inv-loop bank map₀ i₀ map i = (i ≤ 32) × (take i map ≡ tab i (slotsByte bank)) × (length map ≡ 32)
+Inv-loop bank map₀ i₀ map i = (i ≤ laneMapSize) × (take i map ≡ tab i (slotsByte bank)) × (length map ≡ laneMapSize)
 
 abbrev μ-loop : tie.MeasureT-loop
-μ-loop bank map₀ i₀ map i = 32 - i
+μ-loop bank map₀ i₀ map i = laneMapSize - i
 
 loop-holds : tie.Need-loop-holds Inv-loop μ-loop
 unfolding tab tabFrom
@@ -50,8 +51,9 @@ same-length c = search needs
 returns : tie.Need-returns Inv-loop μ-loop
 returns c =
     let l = c .before .loop in
-    let end : l .i ≡ 32 = omega arith in
-    sym (take-all 32 (l .map) (omega arith)) ∙ (rw end at (l .inv .1)) ∙ sym (lane-table (c .before .before .before .before .args .bank .now))
+    let bank = c .before .before .before .before .args .bank .now in
+    let end : l .i ≡ laneMapSize = omega arith in
+    sym (take-all laneMapSize (l .map) (omega arith)) ∙ (rw end at (l .inv .1)) ∙ sym (lane-table bank)
 
 pub write-lanes-spec : {M : Type 1} → statement M
 write-lanes-spec =

@@ -1,14 +1,14 @@
--- `lane_check::lane::slots_byte` joins slot after slot. The loop's invariant: the bits are those of the slots below k. Assumes
+-- `reach::lane::slots_byte` joins slot after slot. The loop's invariant: the bits are those of the slots below k. Assumes
 -- nothing.
 use mathlib.Core.Path.{_≡_}
 use Prim.Native.Nat.{_+_, _-_, _*_, _≤_}
 use native.Mathlib.Numerals.{add-one}
 use native.Mathlib.Omega.{arith}
 use borrow.Author.Needs.{needs}
-use Rattle.rules.proofs.Bits.{ors}
-use Rattle.lane_check.specs.Slots.{slotBit, slotsByte}
-use Rattle.lane_check.proofs.lane.slots_byte.Statement.{statement}
-use Rattle.lane_check.proofs.lane.slots_byte.Tie as tie
+use Rattle.reach.specs.Words.{ors}
+use Rattle.reach.specs.Slots.{slotBit, slotsByte}
+use Rattle.reach.proofs.lane.slots_byte.Statement.{statement}
+use Rattle.reach.proofs.lane.slots_byte.Tie as tie
 
 abbrev Inv-loop : tie.InvT-loop
 Inv-loop bank i bits₀ k₀ bits k = (k ≤ 8) × (bits ≡ ors k (λ n. slotBit bank (8 * i + n)))

@@ -1,9 +1,9 @@
--- `lane_check::lane::lane_refusal` answers the first test that fails: each return rewrites by the tests that led there. Assumes
+-- `reach::lane::lane_refusal` answers the first test that fails: each return rewrites by the tests that led there. Assumes
 -- nothing.
 use borrow.Author.Tests.{eq-eqb, ne-eqb}
 use Rattle.rules.specs.Refusal.{first}
-use Rattle.lane_check.proofs.lane.lane_refusal.Statement.{statement}
-use Rattle.lane_check.proofs.lane.lane_refusal.Tie as tie
+use Rattle.reach.proofs.lane.lane_refusal.Statement.{statement}
+use Rattle.reach.proofs.lane.lane_refusal.Tie as tie
 
 returns : tie.Need-returns
 unfolding first

@@ -1,10 +1,11 @@
--- `lane_check::lane::pair` reads the rule's two bytes. Assumes nothing.
+-- `reach::lane::pair` reads the rule's two bytes. Assumes nothing.
 use mathlib.Core.Path.{_≡_}
 use Prim.Native.Nat.{_+_, _*_}
 use native.Mathlib.Omega.{arith}
 use borrow.Author.Needs.{needs}
-use Rattle.lane_check.proofs.lane.pair.Statement.{statement}
-use Rattle.lane_check.proofs.lane.pair.Tie as tie
+use Rattle.rules.specs.Tile.{paletteBase}
+use Rattle.reach.proofs.lane.pair.Statement.{statement}
+use Rattle.reach.proofs.lane.pair.Tie as tie
 
 mul-at : tie.Need-mul-at
 mul-at c = search needs
@@ -42,7 +43,7 @@ add-result c = search needs
 returns : tie.Need-returns
 returns c =
     let a = c .before .before .before .before .before .args in
-    let next : (2048 + 8 * a .j + 2 * a .p) + 1 ≡ 2048 + 8 * a .j + (2 * a .p + 1) = omega arith in
+    let next : (paletteBase + 8 * a .j + 2 * a .p) + 1 ≡ paletteBase + 8 * a .j + (2 * a .p + 1) = omega arith in
     (rw (c .before .before .wide .ensures .0, c .wide2 .ensures .0, next), omega arith)
 
 pub pair-spec : {M : Type 1} → statement M

@@ -1,12 +1,12 @@
--- `lane_check::lane::slot_bit` is the slot's bit, or none: below 8 the shift loses nothing. Assumes nothing.
+-- `reach::lane::slot_bit` is the slot's bit, or none: below 8 the shift loses nothing. Assumes nothing.
 use mathlib.Core.Path.{sym, _∙_}
-use Prim.Native.Nat.{_*_, _%_, _^_}
+use Prim.Native.Nat.{_%_}
 use native.Mathlib.Omega.{arith}
 use borrow.Author.Needs.{needs}
-use Rattle.rules.proofs.Computed.{agree-below}
-use Rattle.lane_check.specs.Slots.{slotBit}
-use Rattle.lane_check.proofs.lane.slot_bit.Statement.{statement}
-use Rattle.lane_check.proofs.lane.slot_bit.Tie as tie
+use Rattle.reach.specs.Slots.{slotBit}
+use Rattle.reach.proofs.Bytes.{bit-shifted}
+use Rattle.reach.proofs.lane.slot_bit.Statement.{statement}
+use Rattle.reach.proofs.lane.slot_bit.Tie as tie
 
 slot-uneven-requires : tie.Need-slot-uneven-requires
 slot-uneven-requires c κs = search needs
@@ -21,7 +21,7 @@ returns : tie.Need-returns
 unfolding slotBit
 returns c =
     rw (sym (c .before .slot-uneven .ensures) ∙ c .if1 .taken)
-    (agree-below 8 (λ k. 1 * 2 ^ k % 256) (λ k. 2 ^ k) tt (c .before .before .before .args .j % 8) (omega arith))
+    (bit-shifted (c .before .before .before .args .j % 8) 8 (omega arith))
 
 returns-2 : tie.Need-returns-2
 unfolding slotBit

@@ -6,9 +6,23 @@ ghost use lib.ListN.{length};
 ghost use Rattle.rules.specs.Calls.{laneTests, laneCall};
 ghost use Rattle.rules.specs.Reach.{uneven, laneMap};
 ghost use Rattle.rules.specs.Refusal.{first};
+ghost use Rattle.rules.specs.Tile.{bankSize, laneMapSize};
 ghost use Rattle.rdp.specs.View.{refusalAnswered};
-ghost use Rattle.lane_check.specs.Slots.{pairNumber, slotNumber, slotBit, slotsByte};
+ghost use Rattle.reach.specs.Slots.{pairs, pairNumber, slotNumber, slotBit, slotsByte};
 use rdp::refusal;
+use tmem::bank::Bank;
+
+// The bytes of a lane map: a bit for each slot, and a slot is eight bytes of the palette.
+const MAP_SIZE: usize = (Bank::SIZE - Bank::PALETTE_BASE) / 64;
+
+// What the second pair of a slot counts in its number, where the first counts 1.
+const SECOND: u64 = 0x1_0000;
+
+// The third.
+const THIRD: u64 = 0x1_0000_0000;
+
+// The fourth.
+const FOURTH: u64 = 0x1_0000_0000_0000;
 
 // A byte as a number that can be multiplied.
 fn wide(byte: u8) -> u64
@@ -20,40 +34,40 @@ fn wide(byte: u8) -> u64
 
 // Pair p of slot j as one number, its first byte lowest.
 fn pair(bank: &[u8], j: usize, p: usize) -> u64
-    requires { ⌜ length (now bank) ≡ 4096 ⌝ }
+    requires { ⌜ length (now bank) ≡ bankSize ⌝ }
     requires { ⌜ (j < 256) × (p < 4) ⌝ }
     ensures { λ r. ⌜ r ≡ pairNumber (now (bank .entry)) j p ⌝ }
-    ensures { λ r. ⌜ r < 65536 ⌝ }
+    ensures { λ r. ⌜ r < pairs ⌝ }
 {
-    let at = 2048 + 8 * j + 2 * p;
+    let at = Bank::PALETTE_BASE + 8 * j + 2 * p;
     wide(bank[at]) + 256 * wide(bank[at + 1])
 }
 
 // Slot j as one number, its first pair lowest.
 fn slot(bank: &[u8], j: usize) -> u64
-    requires { ⌜ length (now bank) ≡ 4096 ⌝ }
+    requires { ⌜ length (now bank) ≡ bankSize ⌝ }
     requires { ⌜ j < 256 ⌝ }
     ensures { λ r. ⌜ r ≡ slotNumber (now (bank .entry)) j ⌝ }
 {
     pair(bank, j, 0)
-        + 65536 * pair(bank, j, 1)
-        + 4294967296 * pair(bank, j, 2)
-        + 281474976710656 * pair(bank, j, 3)
+        + SECOND * pair(bank, j, 1)
+        + THIRD * pair(bank, j, 2)
+        + FOURTH * pair(bank, j, 3)
 }
 
 // Its pairs are not all one: turned by a pair, it is another number.
 fn slot_uneven(bank: &[u8], j: usize) -> bool
-    requires { ⌜ length (now bank) ≡ 4096 ⌝ }
+    requires { ⌜ length (now bank) ≡ bankSize ⌝ }
     requires { ⌜ j < 256 ⌝ }
     ensures { λ r. ⌜ r ≡ uneven (now (bank .entry)) j ⌝ }
 {
     let all = slot(bank, j);
-    all / 65536 + 281474976710656 * (all % 65536) != all
+    all / SECOND + FOURTH * (all % SECOND) != all
 }
 
 // The slot's bit in its byte of the lane map, where it is uneven.
 fn slot_bit(bank: &[u8], j: usize) -> u8
-    requires { ⌜ length (now bank) ≡ 4096 ⌝ }
+    requires { ⌜ length (now bank) ≡ bankSize ⌝ }
     requires { ⌜ j < 256 ⌝ }
     ensures { λ r. ⌜ r ≡ slotBit (now (bank .entry)) j ⌝ }
 {
@@ -66,8 +80,8 @@ fn slot_bit(bank: &[u8], j: usize) -> u8
 
 // Byte i of the lane map: a bit for each of eight slots.
 fn slots_byte(bank: &[u8], i: usize) -> u8
-    requires { ⌜ length (now bank) ≡ 4096 ⌝ }
-    requires { ⌜ i < 32 ⌝ }
+    requires { ⌜ length (now bank) ≡ bankSize ⌝ }
+    requires { ⌜ i < laneMapSize ⌝ }
     ensures { λ r. ⌜ r ≡ slotsByte (now (bank .entry)) i ⌝ }
 {
     let mut bits = 0u8;
@@ -79,11 +93,11 @@ fn slots_byte(bank: &[u8], i: usize) -> u8
 
 // Every byte of the map is written.
 fn write_lanes(bank: &[u8], map: &mut [u8])
-    requires { ⌜ length (now bank) ≡ 4096 ⌝ }
-    requires { ⌜ length (now map) ≡ 32 ⌝ }
+    requires { ⌜ length (now bank) ≡ bankSize ⌝ }
+    requires { ⌜ length (now map) ≡ laneMapSize ⌝ }
     ensures { λ _. ⌜ now (map .exit) ≡ laneMap (now (bank .entry)) ⌝ }
 {
-    for i in 0..32 {
+    for i in 0..MAP_SIZE {
         map[i] = slots_byte(bank, i);
     }
 }
@@ -92,10 +106,10 @@ fn write_lanes(bank: &[u8], map: &mut [u8])
 fn lane_refusal(bank: &[u8], map: &[u8]) -> u32
     ensures { λ r. ⌜ r ≡ first (laneTests (now (bank .entry)) (now (map .entry))) ⌝ }
 {
-    if bank.len() != 4096 {
+    if bank.len() != Bank::SIZE {
         return refusal::LENGTH;
     }
-    if map.len() != 32 {
+    if map.len() != MAP_SIZE {
         return refusal::LENGTH;
     }
     0

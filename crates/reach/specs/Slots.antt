@@ -3,7 +3,11 @@ use mathlib.Core.Bool.{cond}
 use mathlib.Core.List.{List}
 use Prim.Native.Nat.{ℕ, _+_, _*_, _%_, _^_}
 use Rattle.rules.specs.Reach.{slotByte, uneven}
-use Rattle.rules.proofs.Bits.{ors}
+use Rattle.reach.specs.Words.{ors}
+
+-- how many numbers a pair of bytes can be
+abbrev pub pairs : ℕ
+pairs = 2 ^ 16
 
 -- a pair of bytes, the first one lowest
 abbrev pub pairNumber : List ℕ → ℕ → ℕ → ℕ
@@ -12,7 +16,7 @@ pairNumber bank j p = slotByte bank j (2 * p) + 256 * slotByte bank j (2 * p + 1
 -- the four pairs
 abbrev pub slotNumber : List ℕ → ℕ → ℕ
 slotNumber bank j =
-    pairNumber bank j 0 + 65536 * pairNumber bank j 1 + 4294967296 * pairNumber bank j 2 + 281474976710656 * pairNumber bank j 3
+    pairNumber bank j 0 + pairs * pairNumber bank j 1 + pairs ^ 2 * pairNumber bank j 2 + pairs ^ 3 * pairNumber bank j 3
 
 -- the bit of an uneven slot
 unfoldable pub slotBit : List ℕ → ℕ → ℕ
