@@ -1,4 +1,5 @@
 -- Laws of this crate that belong to no one function.
 pub mod Decimals
 pub mod Digits
+pub mod Texts
 pub mod Writes
