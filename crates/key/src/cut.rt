@@ -2,13 +2,14 @@
 ghost use mathlib.Core.Path.{_≡_};
 ghost use mathlib.Core.List.{List};
 ghost use Prim.Native.Nat.{ℕ, _≤_};
-ghost use lib.ListN.{length, getD, replicate};
+ghost use lib.ListN.{length, getD};
 ghost use Rattle.rules.specs.Base.{distinct};
 ghost use Rattle.rules.specs.Key.{kept, Notes};
+ghost use Rattle.rules.specs.Tile.{freshBank};
 
 // The key of a picture that reads nothing: every byte is zero.
-pub(crate) fn empty_key() -> [u8; 4096]
-    ensures { λ r. ⌜ r ≡ replicate 4096 0 ⌝ }
+pub fn empty_key() -> [u8; 4096]
+    ensures { λ r. ⌜ r ≡ freshBank ⌝ }
 {
     [0u8; 4096]
 }
