@@ -1,6 +1,7 @@
 -- `decimal::number::put_number` is refused where it found too little room, and else writes. Assumes nothing.
 use mathlib.Core.Path.{sym, _∙_}
 use Prim.Native.Nat.{_+_, _≤_}
+use native.Mathlib.Omega.{arith}
 use lib.ListN.{length}
 use borrow.Author.Needs.{needs}
 use borrow.Author.Tests.{ltb-true, ltb-false}
@@ -27,7 +28,7 @@ enough : (c : tie.Else1) → let a = c .before .before .before .before .args in
 enough c = ltb-false _ _ (sym (c .before .is-short .ensures) ∙ c .if1 .left)
 
 write-number-requires : tie.Need-write-number-requires
-write-number-requires c κs = enough (c .before)
+write-number-requires c κs = omega (arith, enough (c .before))
 
 same-length-2 : tie.Need-same-length-2
 same-length-2 c = search needs
