@@ -1,4 +1,5 @@
-# Read by the scripts that build and run what stands outside Rattle. Sets where things are; each can be given beforehand.
+# Read by the scripts that build and run what stands outside Rattle. Sets where things are; each can be given beforehand, but the
+# gate (.ci/run, .ci/host) tests the archive that it makes itself.
 #   TULONKASA_PRODUCT        the archive, x86-64 code       (target/staticlib/libtulonkasa.a)
 #   TULONKASA_ARCHIVE        the archive for this processor (the same; see host/archive for another processor's)
 #   TULONKASA_ORACLE_SOURCE  the original Rust's directory  (shared/docs/src beside the repository)

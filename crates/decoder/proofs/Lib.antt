@@ -3,6 +3,7 @@ pub mod Counted
 pub mod Formats
 pub mod Lengths
 pub mod NamedKinds
+pub mod One
 pub mod Outcomes
 pub mod Placed
 pub mod Refusals

@@ -11,9 +11,8 @@ use lib.ListN.{length, getD, set}
 use lib.Seq.{getD-set-same, getD-set-other}
 use Rattle.rules.specs.Reading.{given}
 use Rattle.rules.specs.Tile.{Tile}
-use Rattle.rules.specs.Texdec.{entryOf, rgba16Texel, ia16Texel, nibble}
+use Rattle.rules.specs.Texdec.{entryOf, rgba16Texel, ia16Texel, nibble, channels}
 use Rattle.rules.specs.Picture.{entryAt}
-use Rattle.texdec.specs.Ia8.{channels}
 use Rattle.texdec.proofs.Nibbles.{nibble-small}
 use Rattle.decoder.specs.Tables.{firstEntry, entryCount, entryGives, EntryTable}
 

@@ -6,8 +6,7 @@ use Prim.Native.Nat.{ℕ, _+_, _*_, _≤_}
 use lib.ListN.{length, getD, take}
 use Rattle.rules.specs.Reading.{Reading, given, trail}
 use Rattle.rules.specs.Tile.{Tile}
-use Rattle.rules.specs.Texdec.{Format, formats, unknown, tlut}
-use Rattle.texdec.specs.Palette.{indexPart}
+use Rattle.rules.specs.Texdec.{Format, formats, unknown, tlut, indexPart}
 use Rattle.decoder.specs.declared.load.Load.{Load}
 use Rattle.decoder.specs.declared.texel.Texel.{Texel}
 

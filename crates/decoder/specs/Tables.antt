@@ -7,9 +7,8 @@ use lib.Dec.{eqb}
 use lib.ListN.{getD}
 use Rattle.rules.specs.Reading.{given}
 use Rattle.rules.specs.Tile.{Tile}
-use Rattle.rules.specs.Texdec.{tlut}
+use Rattle.rules.specs.Texdec.{tlut, channels, ia8Table}
 use Rattle.rules.specs.Picture.{index, entryAt, entryTexel}
-use Rattle.texdec.specs.Ia8.{channels, Ia8Table}
 
 -- the entries that an index byte of a tile can stand for: where they begin, and how many they are
 abbrev pub firstEntry : Tile → ℕ
@@ -28,4 +27,4 @@ pub record EntryTable (t : Tile) (mode lane : ℕ) (bank table : List ℕ) : Typ
 
 pub record TexelTable (t : Tile) (mode lane : ℕ) (bank table : List ℕ) : Type 0 where
   pub entries : tlut mode ≡ true → EntryTable t mode lane bank table
-  pub bytes : tlut mode ≡ false → Ia8Table table
+  pub bytes : tlut mode ≡ false → table ≡ ia8Table

@@ -1,8 +1,9 @@
 // A picture that is asked for: refused, or decoded by a plan.
+ghost use mathlib.Core.List.{[], _∷_};
 ghost use mathlib.Core.Path.{_≡_};
 ghost use Prim.Native.Nat.{_≤_};
 ghost use Rattle.rdp.specs.View.{tileOf, answered};
-ghost use Rattle.decoder.specs.Asked.{planBy, outcomeBy, buffersBy};
+ghost use Rattle.decoder.specs.Asked.{planBy, outcomeBy};
 use crate::format::kind_of;
 use crate::format::tile_reads;
 use crate::plan::Plan;
@@ -51,7 +52,8 @@ pub(crate) fn decode_picture(
     out: &mut [u8],
     seen: &mut [u8],
 ) -> Answer
-    ensures { λ r. ⌜ answered r (buffersBy observe (now (out .exit)) (now (seen .exit))) ≡ outcomeBy observe lookup (now (bank .entry)) (tileOf tile) «tlut_fmt» lane (now (out .entry)) (now (seen .entry)) ⌝ }
+    ensures { λ r. ⌜ answered r (now (out .exit) ∷ now (seen .exit) ∷ [])
+        ≡ outcomeBy observe lookup (now (bank .entry)) (tileOf tile) «tlut_fmt» lane (now (out .entry)) (now (seen .entry)) ⌝ }
 {
     let no = first_refusal(bank, tile, tlut_fmt, lane, lookup, observe, out, seen);
     if no != 0 {

@@ -1,32 +1,39 @@
 // A texel without a lookup table.
 ghost use mathlib.Core.Path.{_≡_};
 ghost use Prim.Native.Nat.{_+_, _*_, _<_, _≤_};
-ghost use Rattle.rules.specs.Texdec.{rgba32, same4, nibble};
+ghost use Rattle.rules.specs.Texdec.{rgba32, same4, nibble, ia8Table};
 ghost use Rattle.rules.specs.Picture.{direct, formatReads};
-ghost use Rattle.texdec.specs.Ia8.{Ia8Table};
 ghost use Rattle.decoder.specs.Steps.{formatAt, Decodes};
+use crate::format::CI4;
+use crate::format::I4;
+use crate::format::IA4;
+use crate::format::IA8;
+use crate::format::IA16;
+use crate::format::RGBA16;
 use crate::format::format_reads;
 use crate::load::entry_of;
 use crate::load::load_byte;
 use crate::load::load_byte_rgba32;
 use crate::texel::Texel;
+use rdp::units::ByteAddr;
 use texdec::entry::decode_ia16_entry;
 use texdec::entry::decode_rgba16_entry;
 use texdec::ia8::texel_bytes;
 use texdec::nibble::decode_i4;
 use texdec::nibble::decode_ia4;
 use texdec::nibble::nibble;
+use tmem::bank::Bank;
 
 // Red and green from the low half of the bank, blue and alpha from the same places of the high half.
-fn rgba32_texel(bank: &[u8], base: usize, palette: u32, rel: usize, odd: bool, x: usize) -> Texel
-    requires { ⌜ base ≤ 34359738367 ⌝ }
+fn rgba32_texel(bank: &[u8], base: ByteAddr, palette: u32, rel: usize, odd: bool, x: usize) -> Texel
+    requires { ⌜ base .0 ≤ 34359738367 ⌝ }
     requires { ⌜ rel < 4294967296 ⌝ }
-    ensures { λ r. ⌜ Decodes (direct rgba32 base palette odd rel x) (now (bank .entry)) r ⌝ }
+    ensures { λ r. ⌜ Decodes (direct rgba32 (base .0) palette odd rel x) (now (bank .entry)) r ⌝ }
 {
     let r = load_byte_rgba32(bank, base, rel, odd, 0);
     let g = load_byte_rgba32(bank, base, rel + 1, odd, 0);
-    let b = load_byte_rgba32(bank, base, rel, odd, 2048);
-    let a = load_byte_rgba32(bank, base, rel + 1, odd, 2048);
+    let b = load_byte_rgba32(bank, base, rel, odd, Bank::PALETTE_BASE);
+    let a = load_byte_rgba32(bank, base, rel + 1, odd, Bank::PALETTE_BASE);
     Texel {
         channels: [r.byte, g.byte, b.byte, a.byte],
         reads: [r.at, g.at, b.at, a.at],
@@ -38,22 +45,22 @@ fn rgba32_texel(bank: &[u8], base: usize, palette: u32, rel: usize, odd: bool, x
 fn two_byte_texel(
     bank: &[u8],
     place: u32,
-    base: usize,
+    base: ByteAddr,
     palette: u32,
     rel: usize,
     odd: bool,
     x: usize,
 ) -> Texel
     requires { ⌜ formatReads (formatAt place) ≡ 2 ⌝ }
-    requires { ⌜ base ≤ 34359738367 ⌝ }
+    requires { ⌜ base .0 ≤ 34359738367 ⌝ }
     requires { ⌜ rel < 4294967296 ⌝ }
-    ensures { λ r. ⌜ Decodes (direct (formatAt place) base palette odd rel x) (now (bank .entry)) r ⌝ }
+    ensures { λ r. ⌜ Decodes (direct (formatAt place) (base .0) palette odd rel x) (now (bank .entry)) r ⌝ }
 {
     let hi = load_byte(bank, base, rel, odd);
     let lo = load_byte(bank, base, rel + 1, odd);
     let channels = match place {
-        2 => decode_rgba16_entry(entry_of(hi.byte, lo.byte)),
-        14 => decode_ia16_entry(entry_of(hi.byte, lo.byte)),
+        RGBA16 => decode_rgba16_entry(entry_of(hi.byte, lo.byte)),
+        IA16 => decode_ia16_entry(entry_of(hi.byte, lo.byte)),
         _ => [hi.byte, lo.byte, hi.byte, lo.byte],
     };
     Texel {
@@ -68,26 +75,26 @@ fn one_byte_texel(
     bank: &[u8],
     ia8: &[u32; 256],
     place: u32,
-    base: usize,
+    base: ByteAddr,
     palette: u32,
     rel: usize,
     odd: bool,
     x: usize,
 ) -> Texel
     requires { ⌜ formatReads (formatAt place) ≡ 1 ⌝ }
-    requires { ⌜ base ≤ 34359738367 ⌝ }
+    requires { ⌜ base .0 ≤ 34359738367 ⌝ }
     requires { ⌜ palette ≤ 15 ⌝ }
     requires { ⌜ rel < 4294967296 ⌝ }
-    requires { ⌜ Ia8Table (now ia8) ⌝ }
-    ensures { λ r. ⌜ Decodes (direct (formatAt place) base palette odd rel x) (now (bank .entry)) r ⌝ }
+    requires { ⌜ now ia8 ≡ ia8Table ⌝ }
+    ensures { λ r. ⌜ Decodes (direct (formatAt place) (base .0) palette odd rel x) (now (bank .entry)) r ⌝ }
 {
     let load = load_byte(bank, base, rel, odd);
     let byte = load.byte;
     let channels = match place {
-        8 => ci4_texel(palette, x, byte),
-        12 => decode_ia4(x, byte),
-        13 => texel_bytes(ia8[byte as usize]),
-        16 => decode_i4(x, byte),
+        CI4 => ci4_texel(palette, x, byte),
+        IA4 => decode_ia4(x, byte),
+        IA8 => texel_bytes(ia8[byte as usize]),
+        I4 => decode_i4(x, byte),
         _ => [byte, byte, byte, byte],
     };
     Texel {
@@ -111,17 +118,17 @@ pub(crate) fn direct_texel(
     bank: &[u8],
     ia8: &[u32; 256],
     place: u32,
-    base: usize,
+    base: ByteAddr,
     palette: u32,
     rel: usize,
     odd: bool,
     x: usize,
 ) -> Texel
-    requires { ⌜ base ≤ 34359738367 ⌝ }
+    requires { ⌜ base .0 ≤ 34359738367 ⌝ }
     requires { ⌜ palette ≤ 15 ⌝ }
     requires { ⌜ rel < 4294967296 ⌝ }
-    requires { ⌜ Ia8Table (now ia8) ⌝ }
-    ensures { λ r. ⌜ Decodes (direct (formatAt place) base palette odd rel x) (now (bank .entry)) r ⌝ }
+    requires { ⌜ now ia8 ≡ ia8Table ⌝ }
+    ensures { λ r. ⌜ Decodes (direct (formatAt place) (base .0) palette odd rel x) (now (bank .entry)) r ⌝ }
 {
     let reads = format_reads(place);
     match reads {

@@ -8,6 +8,29 @@ ghost use Rattle.decoder.specs.Steps.{formatAt, kindOf};
 use rdp::tile::TileDescriptor;
 use texdec::palette::index_part;
 
+// The pairs that the texel step knows, each by its format and size. A 16-bit index has two sizes.
+pub(crate) const RGBA16: u32 = 4 * 0 + 2;
+
+pub(crate) const RGBA32: u32 = 4 * 0 + 3;
+
+pub(crate) const CI4: u32 = 4 * 2 + 0;
+
+pub(crate) const CI8: u32 = 4 * 2 + 1;
+
+pub(crate) const CI16: u32 = 4 * 2 + 2;
+
+pub(crate) const CI16_OF_SIZE_3: u32 = 4 * 2 + 3;
+
+pub(crate) const IA4: u32 = 4 * 3 + 0;
+
+pub(crate) const IA8: u32 = 4 * 3 + 1;
+
+pub(crate) const IA16: u32 = 4 * 3 + 2;
+
+pub(crate) const I4: u32 = 4 * 4 + 0;
+
+pub(crate) const I8: u32 = 4 * 4 + 1;
+
 // The kind of a tile's texels in a mode: with a lookup table the part of a byte that an index is, else the pair's place.
 pub(crate) fn kind_of(tile: TileDescriptor, tlut_fmt: u32) -> u32
     requires { ⌜ InRange (tileOf tile) ⌝ }
@@ -24,17 +47,17 @@ pub(crate) fn format_reads(place: u32) -> usize
     ensures { λ r. ⌜ r ≡ formatReads (formatAt place) ⌝ }
 {
     match place {
-        2 => 2,
-        3 => 4,
-        8 => 1,
-        9 => 1,
-        10 => 2,
-        11 => 2,
-        12 => 1,
-        13 => 1,
-        14 => 2,
-        16 => 1,
-        17 => 1,
+        RGBA16 => 2,
+        RGBA32 => 4,
+        CI4 => 1,
+        CI8 => 1,
+        CI16 => 2,
+        CI16_OF_SIZE_3 => 2,
+        IA4 => 1,
+        IA8 => 1,
+        IA16 => 2,
+        I4 => 1,
+        I8 => 1,
         _ => 0,
     }
 }

@@ -9,6 +9,7 @@ use crate::sizes::texel_count;
 use rdp::refusal;
 use rdp::tile::TileDescriptor;
 use texdec::pair::pair_refusal;
+use tmem::bank::Bank;
 
 // The refusal's number if its test fails, else what the tests after it say.
 fn refuse(number: u32, fails: bool, rest: u32) -> u32
@@ -23,7 +24,7 @@ fn early_refusal(bank: &[u8], tile: TileDescriptor, tlut_fmt: u32, lane: u32) ->
 {
     refuse(
         refusal::LENGTH,
-        bank.len() != 4096,
+        bank.len() != Bank::SIZE,
         pair_refusal(tile, tlut_fmt, lane),
     )
 }
@@ -53,5 +54,5 @@ pub(crate) fn first_refusal(
         observe & (seen.len() / 2 < each * texels),
         no,
     );
-    refuse(refusal::PICTURE, out.len() < 4 * texels, no)
+    refuse(refusal::BUFFER, out.len() < 4 * texels, no)
 }

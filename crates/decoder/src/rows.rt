@@ -1,17 +1,31 @@
 // Rows of texels. Each is written through the part of the lent picture that starts at its first byte, and its reads through
 // the part of the trail.
 ghost use mathlib.Core.Path.{_≡_};
-ghost use mathlib.Core.Bool.{false};
 ghost use Prim.Native.Nat.{_*_, _<_, _≤_};
 ghost use lib.ListN.{length};
 ghost use Rattle.rules.specs.Base.{over};
 ghost use Rattle.rules.specs.Reading.{given, trail};
 ghost use Rattle.decoder.specs.Rows.{four, RowBounds, Ready, oneTexel, oneRow, allRows, told};
+use crate::format::CI4;
+use crate::format::CI8;
+use crate::format::CI16;
+use crate::format::CI16_OF_SIZE_3;
+use crate::format::I4;
+use crate::format::I8;
+use crate::format::IA4;
+use crate::format::IA8;
+use crate::format::IA16;
+use crate::format::RGBA16;
+use crate::format::RGBA32;
 use crate::place::Row;
 use crate::place::row_at;
 use crate::plan::Plan;
 use crate::texel::decode_texel_lane;
 use crate::trail::note_reads;
+use texdec::palette::HIGH_NIBBLE;
+use texdec::palette::NIBBLE;
+use texdec::palette::WHOLE_BYTE;
+use tmem::bank::Bank;
 
 // Four channels go to the front of the picture.
 fn put_channels(channels: [u8; 4], out: &mut [u8])
@@ -94,18 +108,19 @@ fn decode_row(
     }
 }
 
-// A row that is not observed. Each arm names its kind, so that the compiler makes a loop for each.
+// A row through the lookup table. Each arm names its kind, so that the compiler makes a loop for each.
 fn decode_paletted_row(
     bank: &[u8],
     table: &[u32; 256],
     plan: Plan,
     kind: u32,
+    observe: bool,
     row: Row,
     out: &mut [u8],
     seen: &mut [u8],
 )
     requires { ⌜ Ready (now bank) (now table) plan kind ⌝ }
-    requires { ⌜ plan .observe ≡ false ⌝ }
+    requires { ⌜ observe ≡ plan .observe ⌝ }
     requires { ⌜ 2 ≤ plan .«tlut_fmt» ⌝ }
     requires { ⌜ RowBounds row ⌝ }
     requires { ⌜ 4 * plan .width ≤ length (now out) ⌝ }
@@ -114,23 +129,25 @@ fn decode_paletted_row(
     ensures { λ _. ⌜ now (seen .exit) ≡ over (told (plan .observe) (trail (oneRow plan row) (now (bank .entry)))) (now (seen .entry)) ⌝ }
 {
     match kind {
-        32 => decode_row(bank, table, plan, 32, false, row, out, seen),
-        33 => decode_row(bank, table, plan, 33, false, row, out, seen),
-        _ => decode_row(bank, table, plan, 34, false, row, out, seen),
+        WHOLE_BYTE => decode_row(bank, table, plan, WHOLE_BYTE, observe, row, out, seen),
+        NIBBLE => decode_row(bank, table, plan, NIBBLE, observe, row, out, seen),
+        _ => decode_row(bank, table, plan, HIGH_NIBBLE, observe, row, out, seen),
     }
 }
 
+// A row without one.
 fn decode_direct_row(
     bank: &[u8],
     table: &[u32; 256],
     plan: Plan,
     kind: u32,
+    observe: bool,
     row: Row,
     out: &mut [u8],
     seen: &mut [u8],
 )
     requires { ⌜ Ready (now bank) (now table) plan kind ⌝ }
-    requires { ⌜ plan .observe ≡ false ⌝ }
+    requires { ⌜ observe ≡ plan .observe ⌝ }
     requires { ⌜ plan .«tlut_fmt» < 2 ⌝ }
     requires { ⌜ RowBounds row ⌝ }
     requires { ⌜ 4 * plan .width ≤ length (now out) ⌝ }
@@ -139,21 +156,47 @@ fn decode_direct_row(
     ensures { λ _. ⌜ now (seen .exit) ≡ over (told (plan .observe) (trail (oneRow plan row) (now (bank .entry)))) (now (seen .entry)) ⌝ }
 {
     match kind {
-        2 => decode_row(bank, table, plan, 2, false, row, out, seen),
-        3 => decode_row(bank, table, plan, 3, false, row, out, seen),
-        8 => decode_row(bank, table, plan, 8, false, row, out, seen),
-        9 => decode_row(bank, table, plan, 9, false, row, out, seen),
-        10 => decode_row(bank, table, plan, 10, false, row, out, seen),
-        11 => decode_row(bank, table, plan, 11, false, row, out, seen),
-        12 => decode_row(bank, table, plan, 12, false, row, out, seen),
-        13 => decode_row(bank, table, plan, 13, false, row, out, seen),
-        14 => decode_row(bank, table, plan, 14, false, row, out, seen),
-        16 => decode_row(bank, table, plan, 16, false, row, out, seen),
-        _ => decode_row(bank, table, plan, 17, false, row, out, seen),
+        RGBA16 => decode_row(bank, table, plan, RGBA16, observe, row, out, seen),
+        RGBA32 => decode_row(bank, table, plan, RGBA32, observe, row, out, seen),
+        CI4 => decode_row(bank, table, plan, CI4, observe, row, out, seen),
+        CI8 => decode_row(bank, table, plan, CI8, observe, row, out, seen),
+        CI16 => decode_row(bank, table, plan, CI16, observe, row, out, seen),
+        CI16_OF_SIZE_3 => decode_row(bank, table, plan, CI16_OF_SIZE_3, observe, row, out, seen),
+        IA4 => decode_row(bank, table, plan, IA4, observe, row, out, seen),
+        IA8 => decode_row(bank, table, plan, IA8, observe, row, out, seen),
+        IA16 => decode_row(bank, table, plan, IA16, observe, row, out, seen),
+        I4 => decode_row(bank, table, plan, I4, observe, row, out, seen),
+        _ => decode_row(bank, table, plan, I8, observe, row, out, seen),
     }
 }
 
-// A row, observed or not, with a lookup table or without.
+// A row, with a lookup table or without.
+fn decode_kind_row(
+    bank: &[u8],
+    table: &[u32; 256],
+    plan: Plan,
+    kind: u32,
+    observe: bool,
+    row: Row,
+    out: &mut [u8],
+    seen: &mut [u8],
+)
+    requires { ⌜ Ready (now bank) (now table) plan kind ⌝ }
+    requires { ⌜ observe ≡ plan .observe ⌝ }
+    requires { ⌜ RowBounds row ⌝ }
+    requires { ⌜ 4 * plan .width ≤ length (now out) ⌝ }
+    requires { ⌜ plan .step * plan .width ≤ length (now seen) ⌝ }
+    ensures { λ _. ⌜ now (out .exit) ≡ over (given (oneRow plan row) (now (bank .entry))) (now (out .entry)) ⌝ }
+    ensures { λ _. ⌜ now (seen .exit) ≡ over (told (plan .observe) (trail (oneRow plan row) (now (bank .entry)))) (now (seen .entry)) ⌝ }
+{
+    if 2 <= plan.tlut_fmt {
+        decode_paletted_row(bank, table, plan, kind, observe, row, out, seen);
+        return;
+    }
+    decode_direct_row(bank, table, plan, kind, observe, row, out, seen);
+}
+
+// A row, observed or not.
 fn paint_row(
     bank: &[u8],
     table: &[u32; 256],
@@ -171,14 +214,10 @@ fn paint_row(
     ensures { λ _. ⌜ now (seen .exit) ≡ over (told (plan .observe) (trail (oneRow plan row) (now (bank .entry)))) (now (seen .entry)) ⌝ }
 {
     if plan.observe {
-        decode_row(bank, table, plan, kind, true, row, out, seen);
+        decode_kind_row(bank, table, plan, kind, true, row, out, seen);
         return;
     }
-    if 2 <= plan.tlut_fmt {
-        decode_paletted_row(bank, table, plan, kind, row, out, seen);
-        return;
-    }
-    decode_direct_row(bank, table, plan, kind, row, out, seen);
+    decode_kind_row(bank, table, plan, kind, false, row, out, seen);
 }
 
 // All rows. Row y is written through the part of the picture from 4 times width times y on, and of the trail likewise.
@@ -197,7 +236,7 @@ pub(crate) fn decode_rows(
     ensures { λ _. ⌜ now (seen .exit) ≡ over (told (plan .observe) (trail (allRows plan) (now (bank .entry)))) (now (seen .entry)) ⌝ }
 {
     // The contract says so; the compiler reads it here, and drops the test at each byte.
-    if bank.len() != 4096 {
+    if bank.len() != Bank::SIZE {
         return;
     }
     let rows = plan.rows;

@@ -6,18 +6,34 @@ ghost use Rattle.rules.specs.Tile.{InRange};
 ghost use Rattle.rdp.specs.View.{tileOf};
 ghost use Rattle.decoder.specs.Asked.{texelsBy, widthBy, rowsBy};
 use rdp::tile::TileDescriptor;
+use tmem::bank::Bank;
+
+// A lookup has a texel for each place of the bank, in four rows.
+const LOOKUP_WIDTH: usize = Bank::SIZE;
+
+const LOOKUP_ROWS: usize = 4;
+
+const LOOKUP_TEXELS: usize = LOOKUP_WIDTH * LOOKUP_ROWS;
 
 // The texels of a row, the rows, and all texels.
 pub(crate) fn row_width(tile: TileDescriptor, lookup: bool) -> usize
     ensures { λ r. ⌜ r ≡ widthBy lookup (tileOf tile) ⌝ }
 {
-    if lookup { 4096 } else { tile.width as usize }
+    if lookup {
+        LOOKUP_WIDTH
+    } else {
+        tile.width as usize
+    }
 }
 
 pub(crate) fn row_count(tile: TileDescriptor, lookup: bool) -> usize
     ensures { λ r. ⌜ r ≡ rowsBy lookup (tileOf tile) ⌝ }
 {
-    if lookup { 4 } else { tile.height as usize }
+    if lookup {
+        LOOKUP_ROWS
+    } else {
+        tile.height as usize
+    }
 }
 
 pub(crate) fn texel_count(tile: TileDescriptor, lookup: bool) -> usize
@@ -26,7 +42,7 @@ pub(crate) fn texel_count(tile: TileDescriptor, lookup: bool) -> usize
     ensures { λ r. ⌜ r ≤ 1048576 ⌝ }
 {
     if lookup {
-        16384
+        LOOKUP_TEXELS
     } else {
         tile.width as usize * tile.height as usize
     }

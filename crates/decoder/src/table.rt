@@ -7,7 +7,7 @@ ghost use Rattle.rules.specs.Reading.{given};
 ghost use Rattle.rules.specs.Picture.{entryTexel};
 ghost use Rattle.rules.specs.Tile.{InRange};
 ghost use Rattle.rdp.specs.View.{tileOf};
-ghost use Rattle.texdec.specs.Ia8.{channels};
+ghost use Rattle.rules.specs.Texdec.{channels};
 ghost use Rattle.decoder.specs.Tables.{firstEntry, entryCount, entryGives, EntryTable, TexelTable};
 use crate::load::byte_at;
 use crate::load::entry_of;
@@ -16,6 +16,7 @@ use texdec::entry::decode_ia16_entry;
 use texdec::entry::decode_rgba16_entry;
 use texdec::ia8::ia8_table;
 use texdec::ia8::texel_of;
+use texdec::palette::entry_addr;
 
 // The channels of the entry at an address.
 fn load_palette_entry(bank: &[u8], at: usize, tlut_fmt: u32) -> [u8; 4]
@@ -35,7 +36,8 @@ fn entry_texel(bank: &[u8], tlut_fmt: u32, lane: u32, i: usize) -> u32
     requires { ⌜ i < 256 ⌝ }
     ensures { λ r. ⌜ channels r ≡ entryGives «tlut_fmt» lane (now (bank .entry)) i ⌝ }
 {
-    let entry = load_palette_entry(bank, 2048 + 8 * i + 2 * lane as usize, tlut_fmt);
+    let at = entry_addr(i as u8, lane);
+    let entry = load_palette_entry(bank, at.0, tlut_fmt);
     texel_of(entry[0], entry[1], entry[2], entry[3])
 }
 

@@ -32,16 +32,7 @@ pub(crate) fn decode_texel_lane(
     let word = tile.tmem_addr;
     let base = word.bytes();
     if WHOLE_BYTE <= kind {
-        return paletted_texel(bank, table, plan, kind, base.0, rel as usize, odd, x);
+        return paletted_texel(bank, table, plan, kind, base, rel as usize, odd, x);
     }
-    direct_texel(
-        bank,
-        table,
-        kind,
-        base.0,
-        tile.palette,
-        rel as usize,
-        odd,
-        x,
-    )
+    direct_texel(bank, table, kind, base, tile.palette, rel as usize, odd, x)
 }

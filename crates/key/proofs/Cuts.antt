@@ -9,7 +9,7 @@ use native.Mathlib.Nat.{mul-le-mul}
 use lib.ListN.{length, getD, set, take}
 use lib.Seq.{take-suc-set}
 use Rattle.rules.specs.Base.{one, mem, tab, distinct}
-use Rattle.rules.specs.Key.{Notes}
+use Rattle.key.specs.Notes.{Notes}
 use Rattle.rules.proofs.Tables.{tab-more}
 
 -- the key's byte at an address

@@ -56,6 +56,15 @@ pub equal-keys : (t : Tile) (mode lane : ℕ) (b c : List ℕ) → length b ≡ 
 unfolding key
 equal-keys t mode lane b c n m = (key→agree (picture t mode lane) b c n m, agree→key (picture t mode lane) b c)
 
+-- The pack engineer's promise: under one tile, mode and lane, equal keys give equal pictures, texel by texel.
+pub equal-keys-equal-pictures : (t : Tile) (mode lane : ℕ) (b c : List ℕ) → length b ≡ 4096 → length c ≡ 4096
+    → key t mode lane b ≡ key t mode lane c
+    → (given (picture t mode lane) b ≡ given (picture t mode lane) c)
+    × ((i : ℕ) → texelAt i (given (picture t mode lane) b) ≡ texelAt i (given (picture t mode lane) c))
+equal-keys-equal-pictures t mode lane b c n m e =
+    let same = sym (key-same-picture t mode lane b n .0) ∙ ap (given (picture t mode lane)) e ∙ key-same-picture t mode lane c m .0 in
+    (same, λ i. ap (texelAt i) same)
+
 -- a texel of a picture that differs between two banks, by its index in the picture
 pub record Changed (count : ℕ) (r : Reading) (b c : List ℕ) : Type 0 where
   pub texel : ℕ

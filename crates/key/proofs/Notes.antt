@@ -14,7 +14,7 @@ use Rattle.rules.specs.Texdec.{acceptedDirect, formatOf}
 use Rattle.rules.specs.Sampling.{isRgba32}
 use Rattle.rules.specs.Reading.{Reading, trail, upTo}
 use Rattle.rules.specs.Picture.{swapOdd, direct}
-use Rattle.rules.specs.Key.{noted, Notes}
+use Rattle.key.specs.Notes.{noted, Notes}
 use Rattle.rules.proofs.Formats.{readsBy, direct-trail}
 use Rattle.rules.proofs.Readings.{trail-more}
 

@@ -12,7 +12,7 @@ use Rattle.rules.specs.Tile.{Tile}
 use Rattle.rules.specs.Reading.{Reading, trail, upTo}
 use Rattle.rules.specs.Sampling.{flag}
 use Rattle.rules.specs.Picture.{texel, column, rowStart, plainRow, plain, lookup, picture}
-use Rattle.rules.specs.Key.{noted, Notes}
+use Rattle.key.specs.Notes.{noted, Notes}
 use Rattle.rules.proofs.Readings.{trail-then}
 use Rattle.rules.proofs.Tables.{mem-append}
 use Rattle.key.proofs.Notes.{notes-of, notes-same}

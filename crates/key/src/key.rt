@@ -1,15 +1,17 @@
 // The key of a picture.
 ghost use mathlib.Core.Path.{_≡_};
 ghost use mathlib.Core.List.{[], _∷_};
-ghost use lib.ListN.{length, replicate};
+ghost use lib.ListN.{length};
 ghost use Rattle.rules.specs.Reading.{trail};
 ghost use Rattle.rules.specs.Picture.{picture};
 ghost use Rattle.rules.specs.Refusal.{first};
 ghost use Rattle.rules.specs.Calls.{pairTests, keyTests, keyCall};
-ghost use Rattle.rules.specs.Key.{key, keptCount, Notes};
+ghost use Rattle.rules.specs.Key.{key, keptCount};
+ghost use Rattle.key.specs.Notes.{noNotes, Notes};
+ghost use Rattle.rules.specs.Tile.{bankSize};
 ghost use Rattle.rdp.specs.View.{tileOf, answered};
 use crate::cut::cut;
-use crate::cut::empty_key;
+use crate::reads::no_notes;
 use crate::rows::note_lookup;
 use crate::rows::note_plain;
 use rdp::answer::Answer;
@@ -17,44 +19,46 @@ use rdp::refusal;
 use rdp::tile::TileDescriptor;
 use texdec::pair::pair_refusal;
 use tile_sampling::sampling::TileSampling;
+use tmem::bank::Bank;
 
 // The first refusal of the call's inputs. An accepted pair is always known to the texel step, so 9 is never given.
 fn key_refusal(bank: &[u8], tile: TileDescriptor, tlut: u32, lane: u32, out: &[u8]) -> u32
     ensures { λ r. ⌜ r ≡ first (keyTests (now (bank .entry)) (tileOf tile) tlut lane (now (out .entry))) ⌝ }
 {
-    if bank.len() != 4096 {
+    if bank.len() != Bank::SIZE {
         return refusal::LENGTH;
     }
-    if out.len() != 4096 {
+    if out.len() != Bank::SIZE {
         return refusal::LENGTH;
     }
     pair_refusal(tile, tlut, lane)
 }
 
 // Notes what the picture that the flag calls for reads.
-fn note_picture(bank: &[u8], seen: &mut [u8], tile: TileDescriptor, tlut: u32, lane: u32)
-    requires { ⌜ length (now bank) ≡ 4096 ⌝ }
-    requires { ⌜ now seen ≡ replicate 4096 0 ⌝ }
+fn note_picture(bank: &[u8], notes: &mut [u8], tile: TileDescriptor, tlut: u32, lane: u32)
+    requires { ⌜ length (now bank) ≡ bankSize ⌝ }
+    requires { ⌜ now notes ≡ noNotes ⌝ }
     requires { ⌜ first (pairTests (tileOf tile) tlut lane []) ≡ 0 ⌝ }
-    ensures { λ _. ⌜ Notes (now (seen .exit)) (trail (picture (tileOf tile) tlut lane) (now (bank .entry))) ⌝ }
+    ensures { λ _. ⌜ Notes (now (notes .exit)) (trail (picture (tileOf tile) tlut lane) (now (bank .entry))) ⌝ }
 {
     let sampling = TileSampling::from_tile(tile, tlut);
     if sampling.lookup {
-        note_lookup(bank, seen, tile, tlut, lane);
+        note_lookup(bank, notes, tile, tlut, lane);
         return;
     }
-    note_plain(bank, seen, tile, tlut, lane);
+    note_plain(bank, notes, tile, tlut, lane);
 }
 
 // The key of that picture, and its kept count.
 fn cut_picture(bank: &[u8], tile: TileDescriptor, tlut: u32, lane: u32, out: &mut [u8]) -> u32
-    requires { ⌜ (length (now bank) ≡ 4096) × (length (now out) ≡ 4096) ⌝ }
+    requires { ⌜ (length (now bank) ≡ bankSize) × (length (now out) ≡ bankSize) ⌝ }
     requires { ⌜ first (pairTests (tileOf tile) tlut lane []) ≡ 0 ⌝ }
-    ensures { λ r. ⌜ (now (out .exit) ≡ key (tileOf tile) tlut lane (now (bank .entry))) × (r ≡ keptCount (tileOf tile) tlut lane (now (bank .entry))) ⌝ }
+    ensures { λ r. ⌜ (now (out .exit) ≡ key (tileOf tile) tlut lane (now (bank .entry)))
+        × (r ≡ keptCount (tileOf tile) tlut lane (now (bank .entry))) ⌝ }
 {
-    let mut seen = empty_key();
-    note_picture(bank, &mut seen, tile, tlut, lane);
-    cut(bank, &seen, out)
+    let mut notes = no_notes();
+    note_picture(bank, &mut notes, tile, tlut, lane);
+    cut(bank, &notes, out)
 }
 
 // The key of a picture, with the count of kept bytes; or the refusal (1, 2, 3, 5, 9), and `out` as it was lent.

@@ -4,21 +4,22 @@ ghost use mathlib.Core.Bool.{true};
 ghost use Prim.Native.Nat.{_≤_, min};
 ghost use lib.ListN.{length};
 ghost use Rattle.rules.specs.Texdec.{accepted};
-ghost use Rattle.rules.specs.Tile.{InRange};
+ghost use Rattle.rules.specs.Tile.{InRange, bankSize};
 ghost use Rattle.rules.specs.Reading.{trail, upTo};
 ghost use Rattle.rules.specs.Picture.{plainRow, lookupRow, lookup};
-ghost use Rattle.rules.specs.Key.{noted};
+ghost use Rattle.key.specs.Notes.{noted};
 ghost use Rattle.rdp.specs.View.{tileOf};
 use crate::reads::note_texel;
 use rdp::tile::TileDescriptor;
+use tmem::bank::Bank;
 
 // Row y of a plain picture.
-fn note_plain_row(bank: &[u8], seen: &mut [u8], tile: TileDescriptor, tlut: u32, lane: u32, y: u32)
-    requires { ⌜ (length (now bank) ≡ 4096) × (length (now seen) ≡ 4096) ⌝ }
+fn note_plain_row(bank: &[u8], notes: &mut [u8], tile: TileDescriptor, tlut: u32, lane: u32, y: u32)
+    requires { ⌜ (length (now bank) ≡ bankSize) × (length (now notes) ≡ bankSize) ⌝ }
     requires { ⌜ InRange (tileOf tile) ⌝ }
     requires { ⌜ lane ≤ 3 ⌝ }
     requires { ⌜ accepted tlut (tile .fmt) (tile .siz) ≡ true ⌝ }
-    ensures { λ _. ⌜ now (seen .exit) ≡ noted (now (seen .entry)) (trail (plainRow (tileOf tile) tlut lane y) (now (bank .entry))) ⌝ }
+    ensures { λ _. ⌜ now (notes .exit) ≡ noted (now (notes .entry)) (trail (plainRow (tileOf tile) tlut lane y) (now (bank .entry))) ⌝ }
 {
     let start = tile.row_start(y);
     let odd = y % 2 == 1;
@@ -26,7 +27,7 @@ fn note_plain_row(bank: &[u8], seen: &mut [u8], tile: TileDescriptor, tlut: u32,
     for x in 0..width {
         note_texel(
             bank,
-            seen,
+            notes,
             tile,
             tlut,
             lane,
@@ -45,50 +46,50 @@ fn rows_read(height: u32) -> u32
 }
 
 // A plain picture.
-pub(crate) fn note_plain(bank: &[u8], seen: &mut [u8], tile: TileDescriptor, tlut: u32, lane: u32)
-    requires { ⌜ (length (now bank) ≡ 4096) × (length (now seen) ≡ 4096) ⌝ }
+pub(crate) fn note_plain(bank: &[u8], notes: &mut [u8], tile: TileDescriptor, tlut: u32, lane: u32)
+    requires { ⌜ (length (now bank) ≡ bankSize) × (length (now notes) ≡ bankSize) ⌝ }
     requires { ⌜ InRange (tileOf tile) ⌝ }
     requires { ⌜ lane ≤ 3 ⌝ }
     requires { ⌜ accepted tlut (tile .fmt) (tile .siz) ≡ true ⌝ }
-    ensures { λ _. ⌜ now (seen .exit) ≡ noted (now (seen .entry)) (trail (upTo (min (tile .height) 256) (plainRow (tileOf tile) tlut lane)) (now (bank .entry))) ⌝ }
+    ensures { λ _. ⌜ now (notes .exit) ≡ noted (now (notes .entry)) (trail (upTo (min (tile .height) 256) (plainRow (tileOf tile) tlut lane)) (now (bank .entry))) ⌝ }
 {
     let rows = rows_read(tile.height);
     for y in 0..rows {
-        note_plain_row(bank, seen, tile, tlut, lane, y);
+        note_plain_row(bank, notes, tile, tlut, lane, y);
     }
 }
 
 // Row r of a lookup: its row is odd from 2 on, and its column's parity is r's.
 fn note_lookup_row(
     bank: &[u8],
-    seen: &mut [u8],
+    notes: &mut [u8],
     tile: TileDescriptor,
     tlut: u32,
     lane: u32,
     r: usize,
 )
-    requires { ⌜ (length (now bank) ≡ 4096) × (length (now seen) ≡ 4096) ⌝ }
+    requires { ⌜ (length (now bank) ≡ bankSize) × (length (now notes) ≡ bankSize) ⌝ }
     requires { ⌜ InRange (tileOf tile) ⌝ }
     requires { ⌜ lane ≤ 3 ⌝ }
     requires { ⌜ accepted tlut (tile .fmt) (tile .siz) ≡ true ⌝ }
-    ensures { λ _. ⌜ now (seen .exit) ≡ noted (now (seen .entry)) (trail (lookupRow (tileOf tile) tlut lane r) (now (bank .entry))) ⌝ }
+    ensures { λ _. ⌜ now (notes .exit) ≡ noted (now (notes .entry)) (trail (lookupRow (tileOf tile) tlut lane r) (now (bank .entry))) ⌝ }
 {
     let odd = r / 2 % 2 == 1;
     let parity = r % 2;
-    for rel in 0..4096 {
-        note_texel(bank, seen, tile, tlut, lane, odd, rel, parity);
+    for rel in 0..Bank::SIZE {
+        note_texel(bank, notes, tile, tlut, lane, odd, rel, parity);
     }
 }
 
 // A lookup.
-pub(crate) fn note_lookup(bank: &[u8], seen: &mut [u8], tile: TileDescriptor, tlut: u32, lane: u32)
-    requires { ⌜ (length (now bank) ≡ 4096) × (length (now seen) ≡ 4096) ⌝ }
+pub(crate) fn note_lookup(bank: &[u8], notes: &mut [u8], tile: TileDescriptor, tlut: u32, lane: u32)
+    requires { ⌜ (length (now bank) ≡ bankSize) × (length (now notes) ≡ bankSize) ⌝ }
     requires { ⌜ InRange (tileOf tile) ⌝ }
     requires { ⌜ lane ≤ 3 ⌝ }
     requires { ⌜ accepted tlut (tile .fmt) (tile .siz) ≡ true ⌝ }
-    ensures { λ _. ⌜ now (seen .exit) ≡ noted (now (seen .entry)) (trail (lookup (tileOf tile) tlut lane) (now (bank .entry))) ⌝ }
+    ensures { λ _. ⌜ now (notes .exit) ≡ noted (now (notes .entry)) (trail (lookup (tileOf tile) tlut lane) (now (bank .entry))) ⌝ }
 {
     for r in 0..4 {
-        note_lookup_row(bank, seen, tile, tlut, lane, r);
+        note_lookup_row(bank, notes, tile, tlut, lane, r);
     }
 }

@@ -1,10 +1,9 @@
 -- The key: the bank with every byte that its picture reads kept and all others zero.
-use mathlib.Core.Path.{_≡_}
 use mathlib.Core.Bool.{Bool, true, false, cond}
-use mathlib.Core.List.{List, [], _∷_}
+use mathlib.Core.List.{List}
 use Prim.Native.Nat.{ℕ, _-_, _*_, _<_}
 use lib.ListN.{getD, set, take, drop}
-use Rattle.rules.specs.Base.{one, tab, mem, distinct}
+use Rattle.rules.specs.Base.{tab, mem, distinct}
 use Rattle.rules.specs.Reading.{Reading, trail}
 use Rattle.rules.specs.Tile.{Tile, bankSize}
 use Rattle.rules.specs.Picture.{picture}
@@ -24,15 +23,6 @@ key t mode lane bank = keyOf (picture t mode lane) bank
 -- "its kept count: the number of distinct addresses that picture reads"
 unfoldable pub keptCount : Tile → ℕ → ℕ → List ℕ → ℕ
 keptCount t mode lane bank = distinct bankSize (trail (picture t mode lane) bank)
-
--- a byte for each address, 1 where it is noted: the addresses of a list noted as well
-unfoldable pub noted : List ℕ → List ℕ → List ℕ
-noted seen [] = seen
-noted seen (a ∷ l) = noted (set seen a 1) l
-
--- the notes are those of a list
-unfoldable pub Notes : List ℕ → List ℕ → Type 0
-Notes seen l = (a : ℕ) → a < bankSize → getD seen a 0 ≡ one (mem a l)
 
 -- "flipping all eight bits of any one kept byte"
 unfoldable pub flipped : ℕ → List ℕ → List ℕ

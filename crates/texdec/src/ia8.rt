@@ -275,9 +275,10 @@ pub fn texel_bytes(texel: u32) -> [u8; 4]
     ]
 }
 
-// The ready texel of four channels.
+// The ready texel of four channels, which has them.
 pub fn texel_of(red: u8, green: u8, blue: u8, alpha: u8) -> u32
     ensures { λ r. ⌜ r ≡ ready (red ∷ green ∷ blue ∷ alpha ∷ []) ⌝ }
+    ensures { λ r. ⌜ channels r ≡ red ∷ green ∷ blue ∷ alpha ∷ [] ⌝ }
 {
     alpha as u32 * 16777216 + blue as u32 * 65536 + green as u32 * 256 + red as u32
 }

@@ -48,7 +48,7 @@ use Rattle.rdp.proofs.answer.Answer as Ans
 use Rattle.rdp.proofs.answer.Answer.Laws as Ans′
 use Rattle.rdp.proofs.tile.TileDescriptor as Tile
 use Rattle.rdp.proofs.tile.TileDescriptor.Laws as Tile′
-use Rattle.decoder.specs.Asked.{outcomeBy, buffersBy}
+use Rattle.decoder.specs.Asked.{outcomeBy}
 use Rattle.decoder.specs.declared.bank_decoder.BankDecoder.{BankDecoder}
 use Rattle.decoder.proofs.bank_decoder.BankDecoder as T
 use Rattle.decoder.proofs.bank_decoder.BankDecoder.Laws as T′
@@ -153,7 +153,7 @@ module _ {M : Type 1} (𝓤 : URA M) (H : Heap 𝓤) (A : Atoms 𝓤) (W : Given
 
   -- what `picture` says of the bank b, at the last lists os and ss
   abbrev Drawn : RefT (List ℕ) → Answer → List ℕ → List ℕ → Type 0
-  Drawn b r os ss = answered r (buffersBy observe os ss) ≡ outcomeBy observe lookup (now b) (tileOf t) mode lane (now out) (now seen)
+  Drawn b r os ss = answered r (os ∷ ss ∷ []) ≡ outcomeBy observe lookup (now b) (tileOf t) mode lane (now out) (now seen)
 
   exits : (r : Answer) (u : Val) (os ss : List ℕ) → Drawn bank r os ss → length os ≡ length (now out) → length ss ≡ length (now seen)
       → ent 𝓤 (⋆ 𝓤 H A (‵ (Ans.the-row .own r (u ∷ [])) ∷ raw Alive ∷ ‵ (finally u8 (seen .name) ss) ∷ ‵ (finally u8 (out .name) os) ∷ [])) (Post u)

@@ -1,5 +1,6 @@
 -- `decoder::direct::one_byte_texel` has the rule's channels of the byte that it loads, format by format. Assumes nothing.
 use Rattle.decoder.proofs.Formats.{one-else}
+use Rattle.texdec.proofs.Ready.{ia8-at}
 use Rattle.rules.specs.Picture.{direct}
 use Rattle.rules.specs.Reading.{given, trail}
 use native.Mathlib.Omega.{arith}
@@ -51,7 +52,7 @@ returns-3 c =
     let l = m .before in
     let table = l .before .before .pre .1 .1 .1 .1 in
     let byte = element-copy-out-texel-bytes m in
-    rw (m .match .keys3, c .texel-bytes .ensures, table .at (l .load-byte .result .byte) byte, l .load-byte .ensures)
+    rw (m .match .keys3, c .texel-bytes .ensures, table, ia8-at (l .load-byte .result .byte) byte, l .load-byte .ensures)
     (record { channels = refl; reads = refl; few = omega arith; full = refl })
 
 returns-4 : tie.Need-returns-4

@@ -3,6 +3,7 @@ use Rattle.decoder.proofs.Texels.{paletted-is}
 use Rattle.texdec.proofs.Palettes.{by-part, part-small}
 use Rattle.rdp.specs.View.{tileOf}
 use borrow.Author.Tests.{le-leb}
+use lib.Bits.{and-mask}
 use native.Mathlib.Omega.{arith}
 use Prim.Native.Nat.{_<_}
 use mathlib.Core.Path.{_∙_}
@@ -25,23 +26,14 @@ load-byte-masked-requires c κs = search needs
 palette-index-requires : tie.Need-palette-index-requires
 palette-index-requires c κs = search needs
 
-mul-at : tie.Need-mul-at
-mul-at c = omega (arith, small c)
+cast-entry-addr : tie.Need-cast-entry-addr
+cast-entry-addr c = omega (arith, small c)
 
-add-at : tie.Need-add-at
-add-at c = omega (arith, small c)
-
-cast-at : tie.Need-cast-at
-cast-at c = search needs
-
-mul-at-2 : tie.Need-mul-at-2
-mul-at-2 c = search needs
-
-add-at-2 : tie.Need-add-at-2
-add-at-2 c = omega (arith, small (c .before))
+entry-addr-requires : tie.Need-entry-addr-requires
+entry-addr-requires c κs = search needs
 
 mul-texel-bytes : tie.Need-mul-texel-bytes
-mul-texel-bytes c = omega (arith, small (c .before))
+mul-texel-bytes c = search needs
 
 element-copy-out-texel-bytes : tie.Need-element-copy-out-texel-bytes
 element-copy-out-texel-bytes c = small (c .before)
@@ -49,12 +41,13 @@ element-copy-out-texel-bytes c = small (c .before)
 texel-bytes-requires : tie.Need-texel-bytes-requires
 texel-bytes-requires c κs = search needs
 
-add-t15 : tie.Need-add-t15
-add-t15 c = omega (arith, small (c .before .before .before))
+add-t19 : tie.Need-add-t19
+add-t19 c = search needs
 
 returns : tie.Need-returns
 returns c =
-    let i = c .before .before .before in
+    let n = c .before .before in
+    let i = n .before in
     let l = i .before in
     let s = l .before .before in
     let a = s .args in
@@ -62,8 +55,9 @@ returns c =
     let two = le-leb 2 _ (s .pre .1 .0) in
     let byte = l .load-byte-masked .result .byte in
     let is = rw (s .pre .0 .kind, two, by-part t (a .x) byte) at (i .palette-index .ensures) in
-    paletted-is t _ _ _ _ (a .x) _ _ _ _ _ (s .pre .1 .1 .0) (l .load-byte-masked .ensures) is
-    (c .texel-bytes .ensures ∙ rw (← is) at (s .pre .0 .table .entries two .at (a .x) byte (byte-small i)))
+    rw (n .entry-addr .ensures)
+    (paletted-is t _ _ _ _ (a .x) _ _ _ _ _ (s .pre .1 .1 .0) (l .load-byte-masked .ensures ∙ rw (and-mask _ 11)) is
+    (c .texel-bytes .ensures ∙ rw (← is) at (s .pre .0 .table .entries two .at (a .x) byte (byte-small i))))
 
 pub paletted-texel-spec : {M : Type 1} → statement M
 paletted-texel-spec =
@@ -71,13 +65,10 @@ paletted-texel-spec =
     (tie.spec
     load-byte-masked-requires
     palette-index-requires
-    mul-at
-    add-at
-    cast-at
-    mul-at-2
-    add-at-2
+    cast-entry-addr
+    entry-addr-requires
     mul-texel-bytes
     element-copy-out-texel-bytes
     texel-bytes-requires
-    add-t15
+    add-t19
     returns)

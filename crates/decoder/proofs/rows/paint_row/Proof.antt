@@ -4,8 +4,8 @@ use borrow.Author.Needs.{needs}
 use Rattle.decoder.proofs.rows.paint_row.Statement.{statement}
 use Rattle.decoder.proofs.rows.paint_row.Tie as tie
 
-decode-row-requires : tie.Need-decode-row-requires
-decode-row-requires c κs = let s = c .before .before .before .before .before .before in (s .pre .0, (sym (c .before .before .if1 .taken), s .pre .1))
+decode-kind-row-requires : tie.Need-decode-kind-row-requires
+decode-kind-row-requires c κs = let s = c .before .before .before .before .before .before in (s .pre .0, (sym (c .before .before .if1 .taken), s .pre .1))
 
 same-length : tie.Need-same-length
 same-length c = search needs
@@ -16,8 +16,8 @@ same-length-2 c = search needs
 returns : tie.Need-returns
 returns c = search needs
 
-decode-paletted-row-requires : tie.Need-decode-paletted-row-requires
-decode-paletted-row-requires c κs = let s = c .before .before .before .before .before .before .before .before in (s .pre .0, (c .before .before .before .before .if1 .left, (c .before .before .if2 .taken, s .pre .1)))
+decode-kind-row-requires-2 : tie.Need-decode-kind-row-requires-2
+decode-kind-row-requires-2 c κs = let s = c .before .before .before .before .before .before in (s .pre .0, (sym (c .before .before .if1 .left), s .pre .1))
 
 same-length-3 : tie.Need-same-length-3
 same-length-3 c = search needs
@@ -28,31 +28,15 @@ same-length-4 c = search needs
 returns-2 : tie.Need-returns-2
 returns-2 c = search needs
 
-decode-direct-row-requires : tie.Need-decode-direct-row-requires
-decode-direct-row-requires c κs = let s = c .before .before .before .before .before .before .before .before in (s .pre .0, (c .before .before .before .before .if1 .left, (c .before .before .if2 .left, s .pre .1)))
-
-same-length-5 : tie.Need-same-length-5
-same-length-5 c = search needs
-
-same-length-6 : tie.Need-same-length-6
-same-length-6 c = search needs
-
-returns-3 : tie.Need-returns-3
-returns-3 c = search needs
-
 pub paint-row-spec : {M : Type 1} → statement M
 paint-row-spec =
     tie.close
     (tie.spec
-    decode-row-requires
+    decode-kind-row-requires
     same-length
     same-length-2
     returns
-    decode-paletted-row-requires
+    decode-kind-row-requires-2
     same-length-3
     same-length-4
-    returns-2
-    decode-direct-row-requires
-    same-length-5
-    same-length-6
-    returns-3)
+    returns-2)

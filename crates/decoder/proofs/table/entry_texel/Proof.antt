@@ -5,17 +5,11 @@ use borrow.Author.Needs.{needs}
 use Rattle.decoder.proofs.table.entry_texel.Statement.{statement}
 use Rattle.decoder.proofs.table.entry_texel.Tie as tie
 
-mul-load-palette-entry : tie.Need-mul-load-palette-entry
-mul-load-palette-entry c = search needs
+cast-entry-addr : tie.Need-cast-entry-addr
+cast-entry-addr c = search needs
 
-add-load-palette-entry : tie.Need-add-load-palette-entry
-add-load-palette-entry c = search needs
-
-mul-load-palette-entry-2 : tie.Need-mul-load-palette-entry-2
-mul-load-palette-entry-2 c = search needs
-
-add-load-palette-entry-2 : tie.Need-add-load-palette-entry-2
-add-load-palette-entry-2 c = search needs
+entry-addr-requires : tie.Need-entry-addr-requires
+entry-addr-requires c κs = search needs
 
 load-palette-entry-requires : tie.Need-load-palette-entry-requires
 load-palette-entry-requires c κs = search needs
@@ -37,17 +31,17 @@ texel-of-requires c κs = search needs
 
 returns : tie.Need-returns
 returns c =
-    let a = c .before .before .before .args in
-    c .texel-of .ensures ∙ entry-four (a .«tlut-fmt») (a .lane) (a .bank .now) (a .i) _ (c .before .load-palette-entry .ensures)
+    let a = c .before .before .before .before .args in
+    let l = c .before .load-palette-entry in
+    let four = rw (c .before .before .entry-addr .ensures) at (l .ensures) in
+    c .texel-of .ensures .1 ∙ entry-four (a .«tlut-fmt») (a .lane) (a .bank .now) (a .i) _ four
 
 pub entry-texel-spec : {M : Type 1} → statement M
 entry-texel-spec =
     tie.close
     (tie.spec
-    mul-load-palette-entry
-    add-load-palette-entry
-    mul-load-palette-entry-2
-    add-load-palette-entry-2
+    cast-entry-addr
+    entry-addr-requires
     load-palette-entry-requires
     array-read-texel-of
     array-read-texel-of-2

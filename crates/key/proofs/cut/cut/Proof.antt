@@ -9,7 +9,8 @@ use lib.ListN.{length, getD, take, length-set}
 use lib.Seq.{take-all}
 use native.Mathlib.Nat.{le-of-eq}
 use Rattle.rules.specs.Base.{tab, tabFrom, distinct}
-use Rattle.rules.specs.Key.{kept, Notes}
+use Rattle.rules.specs.Key.{kept}
+use Rattle.key.specs.Notes.{Notes}
 use Rattle.key.proofs.Cuts.{keptByte, key-more, count-more, byte-fits}
 use Rattle.key.proofs.cut.cut.Statement.{statement}
 use Rattle.key.proofs.cut.cut.Tie as tie

@@ -1,4 +1,4 @@
--- `key::key::cut_picture` cuts by the notes of the picture, made in an empty key. Assumes nothing.
+-- `key::key::cut_picture` cuts by the notes of the picture, made where nothing was noted. Assumes nothing.
 use mathlib.Core.Path.{ap, _∙_}
 use Prim.Native.Nat.{ℕ}
 use lib.ListN.{length, length-replicate}
@@ -8,8 +8,8 @@ use Rattle.key.proofs.Notes.{note-small}
 use Rattle.key.proofs.key.cut_picture.Statement.{statement}
 use Rattle.key.proofs.key.cut_picture.Tie as tie
 
-empty-key-requires : tie.Need-empty-key-requires
-empty-key-requires c κs = search needs
+no-notes-requires : tie.Need-no-notes-requires
+no-notes-requires c κs = search needs
 
 slice-aggregate-note-picture : tie.Need-slice-aggregate-note-picture
 slice-aggregate-note-picture c = search needs
@@ -25,7 +25,7 @@ cut-requires c κs =
     let n = c .before .before .before in
     let e = n .before .before in
     let p = e .before .before .before .pre in
-    let whole = n .note-picture .kept .1 .0 ∙ ap length (e .empty-key .ensures) ∙ length-replicate {A = ℕ} 4096 0 in
+    let whole = n .note-picture .kept .1 .0 ∙ ap length (e .no-notes .ensures) ∙ length-replicate {A = ℕ} 4096 0 in
     ((p .0 .0, whole, p .0 .1), note-small _ _ whole (n .note-picture .ensures))
 
 same-length : tie.Need-same-length
@@ -41,7 +41,7 @@ pub cut-picture-spec : {M : Type 1} → statement M
 cut-picture-spec =
     tie.close
     (tie.spec
-    empty-key-requires
+    no-notes-requires
     slice-aggregate-note-picture
     note-picture-requires
     slice-aggregate-cut

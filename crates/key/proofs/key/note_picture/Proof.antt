@@ -11,7 +11,7 @@ use Rattle.key.proofs.key.note_picture.Tie as tie
 from-tile-requires : tie.Need-from-tile-requires
 from-tile-requires c κs = search needs
 
-whole : (c : tie.Start) → length (c .args .seen .now) ≡ 4096
+whole : (c : tie.Start) → length (c .args .notes .now) ≡ 4096
 whole c = ap length (c .pre .1 .0) ∙ length-replicate {A = ℕ} 4096 0
 
 note-lookup-requires : tie.Need-note-lookup-requires

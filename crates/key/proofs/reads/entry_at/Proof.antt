@@ -26,29 +26,15 @@ index-part-requires c κs = search needs
 palette-index-requires : tie.Need-palette-index-requires
 palette-index-requires c κs = search needs
 
-mul-result : tie.Need-mul-result
-mul-result c = omega (arith, small c)
+cast-entry-addr : tie.Need-cast-entry-addr
+cast-entry-addr c = omega (arith, small c)
 
-add-result : tie.Need-add-result
-add-result c = omega (arith, small c)
-
-mul-result-2 : tie.Need-mul-result-2
-mul-result-2 c = search needs
-
-add-result-2 : tie.Need-add-result-2
-add-result-2 c = omega (arith, small c)
+entry-addr-requires : tie.Need-entry-addr-requires
+entry-addr-requires c κs = search needs
 
 returns : tie.Need-returns
-returns c = (rw (index-is c), omega (arith, small c))
+returns c = rw (c .entry-addr .ensures) (rw (index-is (c .before)), omega (arith, small (c .before)))
 
 pub entry-at-spec : {M : Type 1} → statement M
 entry-at-spec =
-    tie.close
-    (tie.spec
-    index-part-requires
-    palette-index-requires
-    mul-result
-    add-result
-    mul-result-2
-    add-result-2
-    returns)
+    tie.close (tie.spec index-part-requires palette-index-requires cast-entry-addr entry-addr-requires returns)

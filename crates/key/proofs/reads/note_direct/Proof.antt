@@ -33,23 +33,23 @@ returns : tie.Need-returns
 returns c =
     let u = c .before .before in
     let t = u .before .before .before .before in
-    let q = t .before .before in
-    let p = q .before in
+    let q = t .before .before .before in
+    let p = q .before .before in
     four-noted _ _ _ _ _ _ _ _ (p .before .before .before .pre .0) (p .placed .ensures) (q .placed2 .ensures) _ _
     (p .before .if1 .taken) (t .note-two .ensures) (u .note-two2 .ensures)
 
 placed-requires-3 : tie.Need-placed-requires-3
 placed-requires-3 c κs = search needs
 
-slice-write-seen : tie.Need-slice-write-seen
-slice-write-seen c = search needs
+slice-write-notes : tie.Need-slice-write-notes
+slice-write-notes c = search needs
 
 same-length-2 : tie.Need-same-length-2
 same-length-2 c = search needs
 
 returns-2 : tie.Need-returns-2
 returns-2 c =
-    let p = c .before in
+    let p = c .before .before in
     one-noted _ _ _ _ _ _ _ _ (p .before .before .before .pre .0) (p .placed3 .ensures) refl (p .before .if1 .left) (c .if2 .taken)
 
 add-placed-2 : tie.Need-add-placed-2
@@ -67,8 +67,8 @@ same-length-3 c = search needs
 returns-3 : tie.Need-returns-3
 returns-3 c =
     let t = c .before .before in
-    let q = t .before .before in
-    let p = q .before .before in
+    let q = t .before .before .before in
+    let p = q .before .before .before in
     two-noted _ _ _ _ _ _ _ _ (p .before .before .before .pre .0) (p .placed3 .ensures) (q .placed4 .ensures) _
     (p .before .if1 .left) (q .before .if2 .left) (t .note-two3 .ensures)
 
@@ -86,7 +86,7 @@ note-direct-spec =
     same-length
     returns
     placed-requires-3
-    slice-write-seen
+    slice-write-notes
     same-length-2
     returns-2
     add-placed-2

@@ -4,7 +4,7 @@ use lib.ListN.{length-set}
 use borrow.Author.Needs.{needs}
 use Rattle.rules.specs.Reading.{trail}
 use Rattle.rules.specs.Picture.{paletted}
-use Rattle.rules.specs.Key.{noted}
+use Rattle.key.specs.Notes.{noted}
 use Rattle.key.proofs.reads.note_paletted.Statement.{statement}
 use Rattle.key.proofs.reads.note_paletted.Tie as tie
 
@@ -20,8 +20,8 @@ shared-slice-read-entry-at c = search needs
 entry-at-requires : tie.Need-entry-at-requires
 entry-at-requires c κs = search needs
 
-slice-write-seen : tie.Need-slice-write-seen
-slice-write-seen c = search needs
+slice-write-notes : tie.Need-slice-write-notes
+slice-write-notes c = search needs
 
 add-note-two : tie.Need-add-note-two
 add-note-two c = search needs
@@ -37,7 +37,7 @@ unfolding noted paletted trail
 returns c mode =
     let n = c .before .before in
     let e = n .before .before in
-    let p = e .before .before in
+    let p = e .before .before .before in
     rw (n .note-two .ensures, e .entry-at .ensures .0, p .placed .ensures, p .before .bytes .ensures)
 
 pub note-paletted-spec : {M : Type 1} → statement M
@@ -48,7 +48,7 @@ note-paletted-spec =
     placed-requires
     shared-slice-read-entry-at
     entry-at-requires
-    slice-write-seen
+    slice-write-notes
     add-note-two
     note-two-requires
     same-length

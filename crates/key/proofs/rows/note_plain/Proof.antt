@@ -6,7 +6,7 @@ use borrow.Author.Needs.{needs}
 use lib.ListN.{length}
 use Rattle.rules.specs.Reading.{trail, upTo}
 use Rattle.rules.specs.Picture.{plainRow}
-use Rattle.rules.specs.Key.{noted}
+use Rattle.key.specs.Notes.{noted}
 use Rattle.rdp.specs.View.{tileOf}
 use Rattle.key.proofs.Notes.{noted-more}
 use Rattle.key.proofs.rows.note_plain.Statement.{statement}

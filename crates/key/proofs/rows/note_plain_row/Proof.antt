@@ -6,7 +6,7 @@ use borrow.Author.Needs.{needs}
 use lib.ListN.{length}
 use Rattle.rules.specs.Reading.{trail, upTo}
 use Rattle.rules.specs.Picture.{texel, column, plainRow}
-use Rattle.rules.specs.Key.{noted}
+use Rattle.key.specs.Notes.{noted}
 use Rattle.rules.proofs.Rows.{column-le, row-start-le}
 use Rattle.rdp.specs.View.{tileOf}
 use Rattle.key.proofs.Notes.{noted-more}

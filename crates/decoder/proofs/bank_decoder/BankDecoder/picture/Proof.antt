@@ -49,7 +49,7 @@ use Rattle.rdp.proofs.answer.Answer as Ans
 use Rattle.rdp.proofs.answer.Answer.Laws as Ans′
 use Rattle.rdp.proofs.tile.TileDescriptor as Tile
 use Rattle.rdp.proofs.tile.TileDescriptor.Laws as Tile′
-use Rattle.decoder.specs.Asked.{outcomeBy, buffersBy}
+use Rattle.decoder.specs.Asked.{outcomeBy}
 use Rattle.decoder.specs.declared.bank_decoder.BankDecoder.{BankDecoder}
 use Rattle.decoder.proofs.bank_decoder.BankDecoder as T
 use Rattle.decoder.proofs.bank_decoder.BankDecoder.Laws as T′
@@ -121,7 +121,7 @@ module _ {M : Type 1} (𝓤 : URA M) (H : Heap 𝓤) (A : Atoms 𝓤) (W : Given
 
   -- what the callee says, at the last lists os and ss
   abbrev Drawn : Answer → List ℕ → List ℕ → Type 0
-  Drawn r os ss = answered r (buffersBy observe os ss) ≡ outcomeBy observe lookup (now (d .bytes)) (tileOf t) mode lane (now out) (now seen)
+  Drawn r os ss = answered r (os ∷ ss ∷ []) ≡ outcomeBy observe lookup (now (d .bytes)) (tileOf t) mode lane (now out) (now seen)
 
   -- what the struct owns is what its slice owns, so what is passed is what the callee asks
   apart : ent 𝓤 (onEntry 𝓤 H A picture.signature κs qs a vals) (Decode 𝓤 H A mem run .pre to)

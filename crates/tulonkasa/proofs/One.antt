@@ -1,0 +1,63 @@
+-- Two answers that the contract of a public function allows are the same, and so is what they leave in the lent buffers.
+use mathlib.Core.Path.{_≡_}
+use mathlib.Core.List.{[], _∷_}
+use denote.Ref.{now}
+use Rattle.rdp.proofs.Determined.{answered-determined, refusal-determined, sampling-determined, yes-determined}
+use Rattle.tulonkasa.proofs.keys.tk_key.Reads as tk-key
+use Rattle.tulonkasa.proofs.loads.tk_load_block.Reads as tk-load-block
+use Rattle.tulonkasa.proofs.loads.tk_load_tile.Reads as tk-load-tile
+use Rattle.tulonkasa.proofs.loads.tk_load_tlut.Reads as tk-load-tlut
+use Rattle.tulonkasa.proofs.maps.tk_reach.Reads as tk-reach
+use Rattle.tulonkasa.proofs.maps.tk_tile_has_load.Reads as tk-tile-has-load
+use Rattle.tulonkasa.proofs.maps.tk_palette_nonreplicated.Reads as tk-palette-nonreplicated
+use Rattle.tulonkasa.proofs.pictures.tk_sample_tile.Reads as tk-sample-tile
+use Rattle.tulonkasa.proofs.pictures.tk_sample_tile_observed.Reads as tk-sample-tile-observed
+use Rattle.tulonkasa.proofs.pictures.tk_sampling_lookup.Reads as tk-sampling-lookup
+use Rattle.tulonkasa.proofs.pictures.tk_sampling_lookup_observed.Reads as tk-sampling-lookup-observed
+use Rattle.tulonkasa.proofs.sampling.tk_sampling.Reads as tk-sampling
+
+pub tk-key-one : (w : _) (a : _) (r s : _) (e f : _) → tk-key.Post w a r e → tk-key.Post w a s f
+    → (r ≡ s) × (now (e .1 .1 .1 .1 .1 .1 .1 .1 .1 .1 .1 .1 .1 .1 .0) ∷ [] ≡ now (f .1 .1 .1 .1 .1 .1 .1 .1 .1 .1 .1 .1 .1 .1 .0) ∷ [])
+tk-key-one w a r s e f p q = answered-determined _ r s _ _ p q
+
+pub tk-load-block-one : (w : _) (a : _) (r s : _) (e f : _) → tk-load-block.Post w a r e → tk-load-block.Post w a s f
+    → (r ≡ s) × (now (e .0) ∷ now (e .1 .0) ∷ [] ≡ now (f .0) ∷ now (f .1 .0) ∷ [])
+tk-load-block-one w a r s e f p q = answered-determined _ r s _ _ p q
+
+pub tk-load-tile-one : (w : _) (a : _) (r s : _) (e f : _) → tk-load-tile.Post w a r e → tk-load-tile.Post w a s f
+    → (r ≡ s) × (now (e .0) ∷ now (e .1 .0) ∷ [] ≡ now (f .0) ∷ now (f .1 .0) ∷ [])
+tk-load-tile-one w a r s e f p q = answered-determined _ r s _ _ p q
+
+pub tk-load-tlut-one : (w : _) (a : _) (r s : _) (e f : _) → tk-load-tlut.Post w a r e → tk-load-tlut.Post w a s f
+    → (r ≡ s) × (now (e .0) ∷ now (e .1 .0) ∷ [] ≡ now (f .0) ∷ now (f .1 .0) ∷ [])
+tk-load-tlut-one w a r s e f p q = answered-determined _ r s _ _ p q
+
+pub tk-reach-one : (w : _) (a : _) (r s : _) (e f : _) → tk-reach.Post w a r e → tk-reach.Post w a s f
+    → (r ≡ s) × (now (e .1 .1 .1 .1 .1 .1 .1 .1 .1 .1 .1 .1 .0) ∷ [] ≡ now (f .1 .1 .1 .1 .1 .1 .1 .1 .1 .1 .1 .1 .0) ∷ [])
+tk-reach-one w a r s e f p q = refusal-determined _ r s _ _ p q
+
+pub tk-tile-has-load-one : (w : _) (a : _) (r s : _) (e f : _) → tk-tile-has-load.Post w a r e → tk-tile-has-load.Post w a s f → r ≡ s
+tk-tile-has-load-one w a r s e f p q = yes-determined _ r s p q
+
+pub tk-palette-nonreplicated-one : (w : _) (a : _) (r s : _) (e f : _) → tk-palette-nonreplicated.Post w a r e → tk-palette-nonreplicated.Post w a s f
+    → (r ≡ s) × (now (e .1 .0) ∷ [] ≡ now (f .1 .0) ∷ [])
+tk-palette-nonreplicated-one w a r s e f p q = refusal-determined _ r s _ _ p q
+
+pub tk-sample-tile-one : (w : _) (a : _) (r s : _) (e f : _) → tk-sample-tile.Post w a r e → tk-sample-tile.Post w a s f
+    → (r ≡ s) × (now (e .1 .1 .1 .1 .1 .1 .1 .1 .1 .1 .1 .1 .1 .1 .0) ∷ [] ≡ now (f .1 .1 .1 .1 .1 .1 .1 .1 .1 .1 .1 .1 .1 .1 .0) ∷ [])
+tk-sample-tile-one w a r s e f p q = answered-determined _ r s _ _ p q
+
+pub tk-sample-tile-observed-one : (w : _) (a : _) (r s : _) (e f : _) → tk-sample-tile-observed.Post w a r e → tk-sample-tile-observed.Post w a s f
+    → (r ≡ s) × (now (e .1 .1 .1 .1 .1 .1 .1 .1 .1 .1 .1 .1 .1 .1 .0) ∷ now (e .1 .1 .1 .1 .1 .1 .1 .1 .1 .1 .1 .1 .1 .1 .1 .0) ∷ [] ≡ now (f .1 .1 .1 .1 .1 .1 .1 .1 .1 .1 .1 .1 .1 .1 .0) ∷ now (f .1 .1 .1 .1 .1 .1 .1 .1 .1 .1 .1 .1 .1 .1 .1 .0) ∷ [])
+tk-sample-tile-observed-one w a r s e f p q = answered-determined _ r s _ _ p q
+
+pub tk-sampling-lookup-one : (w : _) (a : _) (r s : _) (e f : _) → tk-sampling-lookup.Post w a r e → tk-sampling-lookup.Post w a s f
+    → (r ≡ s) × (now (e .1 .1 .1 .1 .1 .1 .1 .1 .1 .1 .1 .1 .1 .1 .0) ∷ [] ≡ now (f .1 .1 .1 .1 .1 .1 .1 .1 .1 .1 .1 .1 .1 .1 .0) ∷ [])
+tk-sampling-lookup-one w a r s e f p q = answered-determined _ r s _ _ p q
+
+pub tk-sampling-lookup-observed-one : (w : _) (a : _) (r s : _) (e f : _) → tk-sampling-lookup-observed.Post w a r e → tk-sampling-lookup-observed.Post w a s f
+    → (r ≡ s) × (now (e .1 .1 .1 .1 .1 .1 .1 .1 .1 .1 .1 .1 .1 .1 .0) ∷ now (e .1 .1 .1 .1 .1 .1 .1 .1 .1 .1 .1 .1 .1 .1 .1 .0) ∷ [] ≡ now (f .1 .1 .1 .1 .1 .1 .1 .1 .1 .1 .1 .1 .1 .1 .0) ∷ now (f .1 .1 .1 .1 .1 .1 .1 .1 .1 .1 .1 .1 .1 .1 .1 .0) ∷ [])
+tk-sampling-lookup-observed-one w a r s e f p q = answered-determined _ r s _ _ p q
+
+pub tk-sampling-one : (w : _) (a : _) (r s : _) (e f : _) → tk-sampling.Post w a r e → tk-sampling.Post w a s f → r ≡ s
+tk-sampling-one w a r s e f p q = sampling-determined _ r s p q
