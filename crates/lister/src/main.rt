@@ -11,8 +11,8 @@ ghost use Rattle.lister.specs.Piece.{pieceSize, pieceRoom};
 use libc::STDIN_FILENO;
 use libc::STDOUT_FILENO;
 use listing::list::LINE_ROOM;
+use listing::list::RECORD;
 use listing::list::list;
-use record::fields::RECORD;
 
 // What is read at a time, in records and in bytes, and the room of its lines with a torn tail's.
 const RECORDS: usize = 16;

@@ -9,17 +9,18 @@ ghost use Rattle.rules.specs.Sampling.{lookupTexels};
 ghost use Rattle.rules.specs.Lister.{recordSize, lineOf, recordLine};
 ghost use Rattle.rdp.specs.View.{tileOf};
 ghost use Rattle.listing.specs.View.{lineAnswered, numbersOf};
+use crate::list::RECORD;
 use key::cut::empty_key;
 use key::key::key;
 use rdp::tile::TileDescriptor;
 use record::fields::HEAD;
-use record::fields::RECORD;
 use record::fields::record_mode;
 use record::fields::record_tile;
 use tile_sampling::sampling::TileSampling;
+use tmem::bank::Bank;
 
-// The texels of a lookup: four rows of 4,096.
-const LOOKUP_TEXELS: u32 = 4 * 4096;
+// The texels of a lookup: four for each place of the bank.
+const LOOKUP_TEXELS: u32 = 4 * Bank::SIZE as u32;
 
 pub(crate) struct Line {
     pub(crate) refusal: u32,

@@ -13,7 +13,11 @@ use crate::text::put_line;
 use decimal::number::NUMBER_ROOM;
 use rdp::answer::TextAnswer;
 use rdp::refusal;
-use record::fields::RECORD;
+use record::fields::HEAD;
+use tmem::bank::Bank;
+
+// The bytes of a record.
+pub const RECORD: usize = HEAD + Bank::SIZE;
 
 // The bytes of the longest line: four numbers with a byte after each.
 pub const LINE_ROOM: usize = 4 * NUMBER_ROOM;
