@@ -1,16 +1,16 @@
 -- A number's digits written over the front of a buffer, as `put_digits` writes them, and with a byte after them from a
 -- place on, as `put_number` does.
 use mathlib.Core.Path.{_≡_, refl, ap, sym, _∙_}
-use mathlib.Core.List.{List, [], _∷_, _++_, append-assoc}
-use Prim.Native.Nat.{ℕ, _+_, _-_, _/_, _%_, _^_, _<_, _≤_}
+use mathlib.Core.List.{List, [], _++_, append-assoc}
+use Prim.Native.Nat.{ℕ, _+_, _/_, _%_, _^_, _<_, _≤_}
 use native.Mathlib.Omega.{arith}
-use lib.ListN.{length, set, take, drop, length-append}
+use lib.ListN.{length, set, take, length-append}
 use lib.Seq.{length-take-le}
 use Rattle.rules.specs.Base.{over}
-use Rattle.rules.specs.Lister.{decimal}
+use Rattle.rules.specs.Lister.{decimal, numberRoom, numberText}
 use Rattle.rules.proofs.Over.{length-over}
 use Rattle.decimal.proofs.Decimals.{decimal-short, decimal-one, decimal-more}
-use Rattle.decimal.proofs.Writes.{over-one, over-lent}
+use Rattle.decimal.proofs.Writes.{over-one, lent, back, over-lent}
 
 -- The digit d was stored at k of a list, and a number's digits stand over the buffer with it.
 pub record Stored (n k d : ℕ) (list out : List ℕ) : Type 0 where
@@ -41,12 +41,9 @@ module _ (n : ℕ) (more : 10 ≤ n) (small : n < 2 ^ 32) where
       }
 
 -- the digits came back in a part that was lent from `at` on, k of them: room for the byte after them, and the whole then
-module _ (n after at k : ℕ) (out ys : List ℕ) (h : at + 11 ≤ length out) (ek : k ≡ length (decimal n))
-    (ey : ys ≡ over (decimal n) (take (length out - at) (drop at out))) where
-  abbrev pub back : List ℕ
-  back = take at out ++ (ys ++ drop (length out - at) (drop at out))
-
-  written : back ≡ over (take at out ++ decimal n) out
+module _ (n after at k : ℕ) (out ys : List ℕ) (h : at + numberRoom ≤ length out) (ek : k ≡ length (decimal n))
+    (ey : ys ≡ over (decimal n) (lent out at)) where
+  written : back out at ys ≡ over (take at out ++ decimal n) out
   written = over-lent (decimal n) out ys at (omega arith) ey
 
   ends : length (take at out ++ decimal n) ≡ at + k
@@ -55,10 +52,10 @@ module _ (n after at k : ℕ) (out ys : List ℕ) (h : at + 11 ≤ length out) (
   fits : at + k < length out
   fits = omega (arith, decimal-short n)
 
-  pub after-room : at + k < length back
+  pub after-room : at + k < length (back out at ys)
   after-room =
       let l : length (take at out ++ decimal n) ≤ length out = omega (arith, ends, fits) in
       rw (written, length-over (take at out ++ decimal n) out l) fits
 
-  pub after-put : set back (at + k) after ≡ over (take at out ++ (decimal n ++ (after ∷ []))) out
+  pub after-put : set (back out at ys) (at + k) after ≡ over (take at out ++ numberText n after) out
   after-put = rw (written, over-one (take at out ++ decimal n) out after (at + k) ends fits, append-assoc)

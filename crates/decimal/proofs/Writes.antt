@@ -4,8 +4,8 @@ use mathlib.Core.List.{List, [], _∷_, _++_, append-assoc}
 use Prim.Native.Nat.{ℕ, _+_, _-_, _<_, _≤_}
 use native.Mathlib.Numerals.{add-one}
 use native.Mathlib.Omega.{arith}
-use lib.ListN.{length, getD, set, take, drop, length-append, length-drop, take-append-drop}
-use lib.Seq.{take-suc, drop-cons, set-at, take-at, drop-append-add, drop-drop, length-take-le}
+use lib.ListN.{length, set, take, drop, length-append, length-drop, take-append-drop}
+use lib.Seq.{drop-cons, set-at, take-at, drop-append-add, drop-drop, length-take-le}
 use Rattle.rules.specs.Base.{over}
 use Rattle.rules.proofs.Over.{over-back}
 
@@ -13,14 +13,6 @@ use Rattle.rules.proofs.Over.{over-back}
 pub over-one : (a old : List ℕ) (v n : ℕ) → length a ≡ n → n < length old → set (over a old) n v ≡ over (a ++ (v ∷ [])) old
 unfolding over
 over-one a old v n e h = rw (length-append, e, drop-cons old n 0 h, set-at a _ _ v n e, append-assoc, add-one)
-
--- a copy from the front on: one element more
-pub over-copy : (b old xs : List ℕ) (i : ℕ) → i < length b → length b ≤ length old → xs ≡ over (take i b) old
-    → set xs i (getD b i 0) ≡ over (take (i + 1) b) old
-over-copy b old xs i h l e =
-    let k : i < length old = omega arith in
-    let n : i ≤ length b = omega arith in
-    rw (e, over-one (take i b) old (getD b i 0) i (length-take-le i b n) k, add-one, take-suc b i 0 h)
 
 -- a text stands over the front of a buffer and ends at `at`
 pub record Wrote (text old : List ℕ) (at : ℕ) (xs : List ℕ) : Type 0 where
@@ -49,9 +41,15 @@ wrote-more text old at xs part ys end w e h =
       end = rw (e, w .end, length-append);
     }
 
--- a part that was lent from `at` on comes back with v over its front
-pub over-lent : (v xs ys : List ℕ) (at : ℕ) → at ≤ length xs → ys ≡ over v (take (length xs - at) (drop at xs))
-    → take at xs ++ (ys ++ drop (length xs - at) (drop at xs)) ≡ over (take at xs ++ v) xs
+-- the part of a buffer that is lent from `at` on, and the buffer once the part is back as ys
+abbrev pub lent : List ℕ → ℕ → List ℕ
+lent xs at = take (length xs - at) (drop at xs)
+
+abbrev pub back : List ℕ → ℕ → List ℕ → List ℕ
+back xs at ys = take at xs ++ (ys ++ drop (length xs - at) (drop at xs))
+
+-- the part comes back with v over its front
+pub over-lent : (v xs ys : List ℕ) (at : ℕ) → at ≤ length xs → ys ≡ over v (lent xs at) → back xs at ys ≡ over (take at xs ++ v) xs
 unfolding over
 over-lent v xs ys at h e =
     let n : length (take at xs) ≡ at = length-take-le at xs h in

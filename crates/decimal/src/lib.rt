@@ -1,3 +1,3 @@
-// Decimal numbers as text, for the lister's lines (`listing`). The laws of writing over a buffer stand here too
-// (proofs/Writes.antt).
+// Decimal numbers as text, for whatever writes text into a lent buffer. The laws of such writing stand here too
+// (proofs/Texts.antt, proofs/Writes.antt).
 pub mod number;

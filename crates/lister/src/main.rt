@@ -6,10 +6,20 @@ ghost use mathlib.Core.List.{_++_};
 ghost use Prim.Native.Nat.{_+_, _*_, _/_, _≤_};
 ghost use lib.ListN.{length, take};
 ghost use Rattle.rules.specs.Base.{over};
-ghost use Rattle.rules.specs.Lister.{listing};
+ghost use Rattle.rules.specs.Lister.{recordSize, lineRoom, listing};
+ghost use Rattle.lister.specs.Piece.{pieceSize, pieceRoom};
 use libc::STDIN_FILENO;
 use libc::STDOUT_FILENO;
+use listing::list::LINE_ROOM;
+use listing::list::RECORD;
 use listing::list::list;
+
+// What is read at a time, in records and in bytes, and the room of its lines with a torn tail's.
+const RECORDS: usize = 16;
+
+const PIECE: usize = RECORDS * RECORD;
+
+const PIECE_ROOM: usize = (RECORDS + 1) * LINE_ROOM;
 
 // Where the text that was not yet written out ends, and whether there is more input.
 struct Progress {
@@ -19,18 +29,19 @@ struct Progress {
 
 // The lines of a piece of the input, after the text so far.
 fn list_piece(piece: &[u8], text: &mut [u8], at: usize) -> usize
-    requires { ⌜ at + 44 * (length (now piece) / 4112 + 1) ≤ length (now text) ⌝ }
+    requires { ⌜ at + lineRoom * (length (now piece) / recordSize + 1) ≤ length (now text) ⌝ }
     ensures { λ r. ⌜ r ≡ at + length (listing (now (piece .entry))) ⌝ }
     ensures { λ r. ⌜ r ≤ length (now (text .entry)) ⌝ }
     ensures { λ _. ⌜ now (text .exit) ≡ over (take at (now (text .entry)) ++ listing (now (piece .entry))) (now (text .entry)) ⌝ }
 {
-    at + list(piece, &mut text[at..])
+    let listed = list(piece, &mut text[at..]);
+    at + listed.end
 }
 
-// Reads a whole input buffer, or what is left of the input, and lists it.
+// Reads a piece of the input, or what is left of it, and lists it.
 fn list_next(input: &mut [u8], text: &mut [u8], at: usize) -> Progress
-    requires { ⌜ length (now input) ≤ 65792 ⌝ }
-    requires { ⌜ at + 748 ≤ length (now text) ⌝ }
+    requires { ⌜ length (now input) ≡ pieceSize ⌝ }
+    requires { ⌜ at + pieceRoom ≤ length (now text) ⌝ }
     ensures { λ r. ⌜ r .end ≤ length (now (text .entry)) ⌝ }
 {
     let got = io::read_full(STDIN_FILENO, input);
@@ -52,13 +63,13 @@ fn write_out(text: &[u8], end: usize) -> bool
     is_written
 }
 
-// Writes the text out once the lines of a whole input buffer, 748 bytes at most, may find no room after it.
+// Writes the text out once the lines of a piece may find no room after it.
 fn write_full(text: &[u8], step: Progress) -> Progress
-    requires { ⌜ (step .end ≤ length (now text)) × (748 ≤ length (now text)) ⌝ }
-    ensures { λ r. ⌜ r .end + 748 ≤ length (now (text .entry)) ⌝ }
+    requires { ⌜ (step .end ≤ length (now text)) × (pieceRoom ≤ length (now text)) ⌝ }
+    ensures { λ r. ⌜ r .end + pieceRoom ≤ length (now (text .entry)) ⌝ }
 {
     let end = step.end;
-    if text.len() - end < 748 {
+    if text.len() - end < PIECE_ROOM {
         let is_written = write_out(text, end);
         return Progress {
             end: 0,
@@ -71,8 +82,8 @@ fn write_full(text: &[u8], step: Progress) -> Progress
 // A proved loop has to end, and nothing says that an input does. So the loop counts its turns down, from a number that no
 // run uses up.
 fn list_all(input: &mut [u8], text: &mut [u8])
-    requires { ⌜ length (now input) ≤ 65792 ⌝ }
-    requires { ⌜ 748 ≤ length (now text) ⌝ }
+    requires { ⌜ length (now input) ≡ pieceSize ⌝ }
+    requires { ⌜ pieceRoom ≤ length (now text) ⌝ }
 {
     let mut end = 0;
     let mut more = true;
@@ -87,15 +98,15 @@ fn list_all(input: &mut [u8], text: &mut [u8])
     write_out(text, end);
 }
 
-// Sixteen records.
-fn records() -> [u8; 65792]
-    ensures { λ r. ⌜ length r ≡ 65792 ⌝ }
+// Room for a piece of the input.
+fn piece_buffer() -> [u8; PIECE]
+    ensures { λ r. ⌜ length r ≡ pieceSize ⌝ }
 {
-    [0u8; 65792]
+    [0u8; PIECE]
 }
 
 fn main() {
-    let mut input = records();
+    let mut input = piece_buffer();
     let mut text = io::large_buffer();
     list_all(&mut input, &mut text);
 }

@@ -1,5 +1,6 @@
 -- Laws of this crate that belong to no one function.
 pub mod Lines
 pub mod Listed
+pub mod One
 pub mod Parts
 pub mod Pieces

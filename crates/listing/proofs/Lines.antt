@@ -6,9 +6,9 @@ use Prim.Native.Nat.{ℕ, zero, suc, _*_}
 use lib.ListN.{length}
 use mir.Val.{boolByte}
 use borrow.Author.Tests.{eq-eqb}
-use Rattle.rules.specs.Tile.{Tile}
+use Rattle.rules.specs.Tile.{Tile, bankSize}
 use Rattle.rules.specs.Refusal.{Test, Outcome, first, settle, call}
-use Rattle.rules.specs.Sampling.{flag, texels}
+use Rattle.rules.specs.Sampling.{flag, lookupTexels, texels}
 use Rattle.rules.specs.Calls.{pairTests, unknownPair, keyTests, keyCall}
 use Rattle.rules.specs.Key.{key, keptCount}
 use Rattle.rules.specs.Lister.{lineOf}
@@ -21,11 +21,11 @@ settled-refusal zero numbers left lent = refl
 settled-refusal (suc n) numbers left lent = refl
 
 -- a call answers its first refusal
-pub call-refusal : (tests : List Test) (numbers : List ℕ) (left lent : List (List ℕ)) → (call tests numbers left lent) .refusal ≡ first tests
+call-refusal : (tests : List Test) (numbers : List ℕ) (left lent : List (List ℕ)) → (call tests numbers left lent) .refusal ≡ first tests
 unfolding call
 call-refusal tests numbers left lent = settled-refusal (first tests) numbers left lent
 
-module _ (bank : List ℕ) (t : Tile) (mode : ℕ) (out : List ℕ) (whole : length bank ≡ 4096) (room : length out ≡ 4096) where
+module _ (bank : List ℕ) (t : Tile) (mode : ℕ) (out : List ℕ) (whole : length bank ≡ bankSize) (room : length out ≡ bankSize) where
   -- with a whole bank and a whole key, the tests that are left are a line's
   tests-left : first (keyTests bank t mode 0 out) ≡ first (pairTests t mode 0 (unknownPair t mode ∷ []))
   unfolding first
@@ -43,7 +43,9 @@ module _ (bank : List ℕ) (t : Tile) (mode : ℕ) (out : List ℕ) (whole : len
     is-count : refusal ≡ 0 → count ≡ keptCount t mode 0 bank
     unfolding keyCall
     is-count z =
-        let e = answer ∙ sym (done-is (keyTests bank t mode 0 out) (keptCount t mode 0 bank ∷ []) (key t mode 0 bank ∷ []) (out ∷ []) (tests-left ∙ sym is-first ∙ z)) in
+        let tests = keyTests bank t mode 0 out in
+        let passed = tests-left ∙ sym is-first ∙ z in
+        let e = answer ∙ sym (done-is tests (keptCount t mode 0 bank ∷ []) (key t mode 0 bank ∷ []) (out ∷ []) passed) in
         let n : count ∷ [] ≡ keptCount t mode 0 bank ∷ [] = ap (λ (o : Outcome). o .numbers) e in
         cc
 
@@ -55,7 +57,7 @@ module _ (bank : List ℕ) (t : Tile) (mode : ℕ) (out : List ℕ) (whole : len
     unfolding lineOf
     line-refused h = refused-is _ _ _ _ refusal is-first h
 
-    pub line-done : (b : Bool) (n : ℕ) → refusal ≡ 0 → b ≡ flag t mode → n ≡ cond b 16384 (t .width * t .height)
+    pub line-done : (b : Bool) (n : ℕ) → refusal ≡ 0 → b ≡ flag t mode → n ≡ cond b lookupTexels (t .width * t .height)
         → record { refusal = 0; numbers = boolByte b ∷ count ∷ n ∷ []; buffers = [] } ≡ lineOf t mode bank
     unfolding lineOf texels
     line-done b n z f e = rw (e, one-byte, f, is-count z) (done-is _ _ _ _ (sym is-first ∙ z))

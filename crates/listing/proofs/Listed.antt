@@ -1,44 +1,46 @@
--- An input's text from the texts of its whole records, alone or with a torn tail's line after them; and a text in a part
--- of a buffer that was lent for it.
-use mathlib.Core.Path.{_≡_, _∙_}
+-- An input's text from the texts of its whole records, alone or with a torn tail's line after them; and what a caller of `list`
+-- knows that lent a part of a buffer.
+use mathlib.Core.Path.{_≡_, ap}
 use mathlib.Core.Bool.{true, false}
-use mathlib.Core.List.{List, append-nil, _++_}
-use Prim.Native.Nat.{ℕ, _+_, _-_, _/_, _%_, _≤_}
+use mathlib.Core.List.{List, [], _∷_, append-nil, _++_}
+use Prim.Native.Nat.{ℕ, _+_, _*_, _/_, _%_, _≤_}
 use native.Mathlib.Omega.{arith}
 use lib.Dec.{eqb}
-use lib.ListN.{length, take, drop, length-take, length-drop}
-use borrow.Author.Tests.{le-ltb}
+use lib.ListN.{length, take, length-take, length-drop}
 use Rattle.rules.specs.Base.{over}
-use Rattle.rules.specs.Lister.{tornLine, lineText, listing}
-use Rattle.listing.specs.View.{recordTexts, fitted}
-use Rattle.decimal.proofs.Writes.{Wrote, wrote-more, over-lent, over-within}
+use Rattle.rules.specs.Lister.{recordSize, lineRoom, tornLine, lineText, listing, listCall}
+use Rattle.rdp.specs.View.{textAnswered}
+use Rattle.rdp.specs.declared.answer.TextAnswer.{TextAnswer}
+use Rattle.listing.specs.View.{recordTexts}
+use Rattle.decimal.proofs.Texts.{text-put}
+use Rattle.decimal.proofs.Writes.{Wrote, wrote-more, lent, back, over-lent, over-within}
 
-module _ (input out : List ℕ) (at : ℕ) (xs : List ℕ) (records : Wrote (recordTexts input (length input / 4112)) out at xs) where
-  pub whole-text : eqb (length input % 4112) 0 ≡ true → Wrote (listing input) out at xs
+module _ (input out : List ℕ) (at : ℕ) (xs : List ℕ) (records : Wrote (recordTexts input (length input / recordSize)) out at xs) where
+  pub whole-text : eqb (length input % recordSize) 0 ≡ true → Wrote (listing input) out at xs
   unfolding listing
   whole-text e = rw (e, append-nil) records
 
-  pub torn-text : (ys : List ℕ) (end : ℕ) → eqb (length input % 4112) 0 ≡ false → end ≡ at + length (lineText tornLine)
+  pub torn-text : (ys : List ℕ) (end : ℕ) → eqb (length input % recordSize) 0 ≡ false → end ≡ at + length (lineText tornLine)
       → ys ≡ over (take at xs ++ lineText tornLine) xs → Wrote (listing input) out end ys
   unfolding listing
   torn-text ys end e n h = rw e (wrote-more _ out at xs (lineText tornLine) ys end records n h)
 
--- A text that was written over the part of a buffer from `at` on, which has room for it. What a caller of `list` or
--- `line_text` wants to know.
-module _ (room at : ℕ) (text buffer : List ℕ) (h : at + room ≤ length buffer) where
-  abbrev pub lent : List ℕ
-  lent = take (length buffer - at) (drop at buffer)
+-- The part of a buffer from `at` on was lent and is back as ys: an input's text stands there and ends at `end`, in the buffer.
+pub record Listed (input buffer : List ℕ) (at end : ℕ) (ys : List ℕ) : Type 0 where
+  pub ends : end ≡ at + length (listing input)
+  pub within : end ≤ length buffer
+  pub is : back buffer at ys ≡ over (take at buffer ++ listing input) buffer
 
-  pub all-fits : fitted room text lent ≡ text
-  all-fits =
-      let n : room ≤ length lent = simp (length-take, length-drop) (omega arith) in
-      rw (le-ltb (length lent) room n)
-
-  pub text-within : (ys : List ℕ) → ys ≡ over (fitted room text lent) lent → length ys ≡ length lent → at + length text ≤ length buffer
-  text-within ys e n =
-      let l : length text ≤ length lent = over-within text lent ys (e ∙ rw all-fits) n in
-      omega (arith, simp (length-take, length-drop) at l)
-
-  pub text-lent : (ys : List ℕ) → ys ≡ over (fitted room text lent) lent
-      → take at buffer ++ (ys ++ drop (length buffer - at) (drop at buffer)) ≡ over (take at buffer ++ text) buffer
-  text-lent ys e = over-lent text buffer ys at (omega arith) (e ∙ rw all-fits)
+-- what `list` leaves where the part has room
+pub listed : (input buffer : List ℕ) (at : ℕ) {r : TextAnswer} {ys : List ℕ}
+    → at + lineRoom * (length input / recordSize + 1) ≤ length buffer → textAnswered r (ys ∷ []) ≡ listCall input (lent buffer at)
+    → length ys ≡ length (lent buffer at) → Listed input buffer at (at + r .end) ys
+unfolding listCall
+listed input buffer at {r} {ys} room answer same =
+    let p = text-put _ (lent buffer at) _ _ (simp (length-take, length-drop) (omega arith)) answer in
+    let l : length (listing input) ≤ length (lent buffer at) = over-within _ _ ys (p .1) same in
+    record {
+      ends = ap (λ n. at + n) (p .0);
+      within = omega (arith, p .0, simp (length-take, length-drop) at l);
+      is = over-lent (listing input) buffer ys at (omega arith) (p .1);
+    }

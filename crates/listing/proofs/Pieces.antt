@@ -1,7 +1,6 @@
--- An input may be listed piece by piece: where a piece ends with a whole record, its text and that of what follows are the
--- text of both.
+-- An input may be listed piece by piece, where every piece but the last ends with a whole record.
 use mathlib.Core.Path.{_≡_, refl, ap, sym, _∙_}
-use mathlib.Core.List.{List, [], _++_, append-assoc, append-nil}
+use mathlib.Core.List.{List, [], _∷_, _++_, map, append-assoc, append-nil}
 use Prim.Native.Nat.{ℕ, zero, suc, _+_, _*_, _/_, _%_, _<_, _≤_}
 use native.Mathlib.Omega.{arith}
 use native.Mathlib.Numerals.{add-one}
@@ -9,7 +8,7 @@ use native.Mathlib.Nat.{add-zero}
 use lib.ListN.{length, drop, length-append, length-drop}
 use lib.Seq.{take-append-le, drop-append-le, drop-append-add}
 use Rattle.rules.specs.Base.{tab, tabFrom, concat}
-use Rattle.rules.specs.Lister.{recordAt, recordLine, lineText, listing}
+use Rattle.rules.specs.Lister.{recordSize, recordAt, recordLine, lineText, listing}
 use Rattle.rules.proofs.Tables.{concat-more}
 use Rattle.listing.specs.View.{recordText, recordTexts}
 
@@ -35,29 +34,46 @@ concat-cut n (suc m) f =
     let s : suc m ≡ m + 1 = omega arith in
     rw (e, s, concat-more (n + m) f, concat-cut n m f, concat-more m (λ j. f (n + j)), append-assoc)
 
-module _ (n : ℕ) (a b : List ℕ) (whole : length a ≡ n * 4112) where
-  here : (i : ℕ) → i < n → recordAt (a ++ b) i ≡ recordAt a i
-  here i h =
-      let l : i * 4112 ≤ length a = omega arith in
-      let k : 4112 ≤ length (drop (i * 4112) a) = rw length-drop (omega arith) in
-      rw (drop-append-le (i * 4112) a b l, take-append-le 4112 (drop (i * 4112) a) b k)
+module _ (a b : List ℕ) (whole : length a % recordSize ≡ 0) where
+  abbrev count : ℕ
+  count = length a / recordSize
 
-  after : (j : ℕ) → recordAt (a ++ b) (n + j) ≡ recordAt b j
+  here : (i : ℕ) → i < count → recordAt (a ++ b) i ≡ recordAt a i
+  here i h =
+      let l : i * recordSize ≤ length a = omega arith in
+      let k : recordSize ≤ length (drop (i * recordSize) a) = rw length-drop (omega arith) in
+      rw (drop-append-le (i * recordSize) a b l, take-append-le recordSize (drop (i * recordSize) a) b k)
+
+  after : (j : ℕ) → recordAt (a ++ b) (count + j) ≡ recordAt b j
   after j =
-      let e : (n + j) * 4112 ≡ length a + j * 4112 = omega arith in
+      let e : (count + j) * recordSize ≡ length a + j * recordSize = omega arith in
       rw (e, drop-append-add)
 
-  texts : (m : ℕ) → recordTexts (a ++ b) (n + m) ≡ recordTexts a n ++ recordTexts b m
+  texts : (m : ℕ) → recordTexts (a ++ b) (count + m) ≡ recordTexts a count ++ recordTexts b m
   texts m =
-      concat-cut n m (recordText (a ++ b))
-      ∙ rw (concat-same n (recordText (a ++ b)) (recordText a) (λ i h. ap shown (here i h)), concat-same m (λ j. recordText (a ++ b) (n + j)) (recordText b) (λ j h. ap shown (after j)))
+      let own = concat-same count (recordText (a ++ b)) (recordText a) (λ i h. ap shown (here i h)) in
+      let rest = concat-same m (λ j. recordText (a ++ b) (count + j)) (recordText b) (λ j h. ap shown (after j)) in
+      concat-cut count m (recordText (a ++ b)) ∙ rw (own, rest)
 
-  -- the text of an input is the text of its first n records, and the text of the rest
-  pub listing-cut : listing (a ++ b) ≡ listing a ++ listing b
+  -- the text of a piece of whole records and of what follows it
+  listing-cut : listing (a ++ b) ≡ listing a ++ listing b
   unfolding listing
   listing-cut =
-      let count : length (a ++ b) / 4112 ≡ n + length b / 4112 = rw length-append (omega arith) in
-      let rest : length (a ++ b) % 4112 ≡ length b % 4112 = rw length-append (omega arith) in
-      let own : length a / 4112 ≡ n = omega arith in
-      let none : length a % 4112 ≡ 0 = omega arith in
-      rw (count, rest, own, none, texts (length b / 4112), append-nil, append-assoc)
+      let all : length (a ++ b) / recordSize ≡ count + length b / recordSize = rw length-append (omega arith) in
+      let rest : length (a ++ b) % recordSize ≡ length b % recordSize = rw length-append (omega arith) in
+      rw (all, rest, whole, texts (length b / recordSize), append-nil, append-assoc)
+
+-- every piece of a list ends with a whole record
+unfoldable pub Whole : List (List ℕ) → Type 0
+Whole [] = Unit {0}
+Whole (p ∷ l) = (length p % recordSize ≡ 0) × Whole l
+
+-- The pieces' texts one after the other are the whole input's text. The contract of `list` speaks of one call; this carries it to
+-- the lister, which calls `list` on sixteen records at a time, and last on what is left. docs/PROMISES.md names it.
+pub listing-pieces : (pieces : List (List ℕ)) (last : List ℕ) → Whole pieces
+    → listing (concat pieces ++ last) ≡ concat (map listing pieces) ++ listing last
+unfolding concat Whole
+listing-pieces [] last h = refl
+listing-pieces (p ∷ l) last h =
+    let ih = listing-pieces l last (h .1) in
+    rw (append-assoc p (concat l) last, listing-cut p (concat l ++ last) (h .0), ih, append-assoc)

@@ -1,9 +1,6 @@
--- The declared line as the rules have it, which gives no field a meaning; what a buffer has room for; the texts of records.
-use mathlib.Core.Bool.{cond}
+-- The declared line as the rules have it, which gives no field a meaning; the texts of records.
 use mathlib.Core.List.{List, [], _∷_}
 use Prim.Native.Nat.{ℕ}
-use lib.Dec.{ltb}
-use lib.ListN.{length}
 use Rattle.rules.specs.Base.{tab, concat}
 use Rattle.rules.specs.Refusal.{Outcome}
 use Rattle.rules.specs.Lister.{recordAt, recordLine, lineText}
@@ -16,10 +13,6 @@ lineAnswered l = record { refusal = l .refusal; numbers = l .flag ∷ l .kept �
 -- a line's four numbers, in their order
 abbrev pub numbersOf : Line → List ℕ
 numbersOf l = l .refusal ∷ l .flag ∷ l .kept ∷ l .texels ∷ []
-
--- what is written of a text into a buffer: all of it, or nothing where the buffer has less room than was asked for
-abbrev pub fitted : ℕ → List ℕ → List ℕ → List ℕ
-fitted room text out = cond (ltb (length out) room) [] text
 
 -- the text of record i of an input, and of its first n records
 abbrev pub recordText : List ℕ → ℕ → List ℕ

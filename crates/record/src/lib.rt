@@ -1,2 +1,2 @@
-// The sixteen bytes before a record's bank, for the lister (`record_line`).
+// A record of a capture: sixteen bytes for the tile and the mode, then the bank.
 pub mod fields;

@@ -1,4 +1,4 @@
--- `lister::list_all` keeps both buffers' lengths and room for a whole input buffer's lines. The measure is the number of
+-- `lister::list_all` keeps both buffers' lengths and room for a piece's lines. The measure is the number of
 -- turns that are left. Assumes nothing.
 use mathlib.Core.Path.{_≡_, sym}
 use mathlib.Core.Bool.{Bool, true, false, _&&_, true≢false}
@@ -7,12 +7,13 @@ use native.Mathlib.Omega.{arith}
 use lib.ListN.{length}
 use borrow.Author.Needs.{needs}
 use borrow.Author.Tests.{ltb-true}
+use Rattle.lister.specs.Piece.{pieceRoom}
 use Rattle.lister.proofs.list_all.Statement.{statement}
 use Rattle.lister.proofs.list_all.Tie as tie
 
 abbrev Inv-loop : tie.InvT-loop
 Inv-loop input₀ text₀ end₀ more₀ turns₀ input text end more turns =
-    (length input ≡ length input₀) × (length text ≡ length text₀) × (end + 748 ≤ length text)
+    (length input ≡ length input₀) × (length text ≡ length text₀) × (end + pieceRoom ≤ length text)
 
 abbrev μ-loop : tie.MeasureT-loop
 μ-loop input₀ text₀ end₀ more₀ turns₀ input text end more turns = turns

@@ -37,7 +37,8 @@ more : (t : ℕ) (c : put-digits-lts.After-slice-known2 (put-digits-below t, put
 more t c =
     let d = c .before .before in
     let s = d .before .before .before .before in
-    last-digit (s .args .n) (d .before .before .if1 .left) (s .fits .n .fits) _ _ _ (s .pre .1) (d .put-digits .ensures .0) (d .put-digits .ensures .1)
+    let e = d .put-digits .ensures in
+    last-digit (s .args .n) (d .before .before .if1 .left) (s .fits .n .fits) _ _ _ (s .pre .1) (e .0) (e .1)
 
 put-digits-cast-out :
     (t : ℕ) →

@@ -43,7 +43,7 @@ returns : tie.Need-returns
 returns c =
     let s = c .before .before .before .before .before in
     let d = c .before .before .put-digits .ensures in
-    (simp length-append (omega arith), (omega (arith, short c), after-put (s .args .n) (s .args .after) _ _ _ _ (s .pre) (d .0) (d .1)))
+    (simp length-append (omega arith), after-put (s .args .n) (s .args .after) _ _ _ _ (s .pre) (d .0) (d .1))
 
 pub write-number-spec : {M : Type 1} → statement M
 write-number-spec =

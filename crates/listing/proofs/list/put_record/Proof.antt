@@ -1,9 +1,9 @@
--- `listing::list::put_record` writes the line of the record's 4,112 bytes. Assumes nothing.
+-- `listing::list::put_record` writes the line of the record's bytes. Assumes nothing.
 use mathlib.Core.Path.{_≡_, ap, _∙_}
 use Prim.Native.Nat.{ℕ, _+_, _*_, _-_}
 use native.Mathlib.Omega.{arith}
 use lib.ListN.{take, drop}
-use Rattle.rules.specs.Lister.{recordLine}
+use Rattle.rules.specs.Lister.{recordSize, recordLine}
 use borrow.Author.Needs.{needs}
 use Rattle.listing.proofs.list.put_record.Statement.{statement}
 use Rattle.listing.proofs.list.put_record.Tie as tie
@@ -37,8 +37,8 @@ returns c =
     let p = c .before .before in
     let r = p .before .before in
     let s = r .before .before .before .before in
-    let size : (s .args .i * 4112 + 4112) - s .args .i * 4112 ≡ 4112 = omega arith in
-    let line = r .record-line .ensures ∙ ap (λ (n : ℕ). recordLine (take n (drop (s .args .i * 4112) (s .args .input .now)))) size in
+    let size : (s .args .i * recordSize + recordSize) - s .args .i * recordSize ≡ recordSize = omega arith in
+    let line = r .record-line .ensures ∙ ap (λ (n : ℕ). recordLine (take n (drop (s .args .i * recordSize) (s .args .input .now)))) size in
     rw (← line) (p .put-line .ensures)
 
 pub put-record-spec : {M : Type 1} → statement M

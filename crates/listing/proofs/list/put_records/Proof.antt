@@ -5,6 +5,7 @@ use native.Mathlib.Omega.{arith}
 use lib.ListN.{length}
 use borrow.Author.Needs.{needs}
 use Rattle.rules.specs.Base.{tab, tabFrom, concat}
+use Rattle.rules.specs.Lister.{lineRoom}
 use Rattle.rules.proofs.Tables.{concat-more}
 use Rattle.listing.specs.View.{recordText, recordTexts}
 use Rattle.decimal.proofs.Writes.{Wrote, wrote-none, wrote-more}
@@ -13,7 +14,7 @@ use Rattle.listing.proofs.list.put_records.Tie as tie
 
 abbrev Inv-loop : tie.InvT-loop
 Inv-loop input count out₀ at₀ i₀ out at i =
-    (i ≤ count) × (length out ≡ length out₀) × (at ≤ 44 * i) × Wrote (recordTexts input i) out₀ at out
+    (i ≤ count) × (length out ≡ length out₀) × (at ≤ lineRoom * i) × Wrote (recordTexts input i) out₀ at out
 
 abbrev μ-loop : tie.MeasureT-loop
 μ-loop input count out₀ at₀ i₀ out at i = count - i
@@ -38,7 +39,8 @@ loop-again c =
     let s = l .before .before .before in
     let e = p .put-record .ensures in
     let w = wrote-more _ _ _ _ (recordText (s .args .input .now) (l .loop .i)) _ _ (l .loop .inv .3) (e .0) (e .1 .1) in
-    (omega arith, p .put-record .kept .1 .1 .0 ∙ l .loop .inv .1, omega (arith, e .1 .0), rw (concat-more (l .loop .i) (recordText (s .args .input .now))) w)
+    let same = p .put-record .kept .1 .1 .0 ∙ l .loop .inv .1 in
+    (omega arith, same, omega (arith, e .1 .0), rw (concat-more (l .loop .i) (recordText (s .args .input .now))) w)
 
 same-length : tie.Need-same-length Inv-loop μ-loop
 same-length c = c .before .loop .inv .1

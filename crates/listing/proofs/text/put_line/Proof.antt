@@ -1,6 +1,7 @@
 -- `listing::text::put_line` writes the four numbers one after the other, each where the text before it ends.
 -- Assumes nothing.
 use native.Mathlib.Omega.{arith}
+use Rattle.decimal.proofs.Texts.{number-put}
 use Rattle.listing.proofs.Parts.{line-put}
 use borrow.Author.Needs.{needs}
 use Rattle.listing.proofs.text.put_line.Statement.{statement}
@@ -29,13 +30,12 @@ returns c =
     let r = f .before .before .before .before in
     let s = r .before .before .before in
     let l = s .args .line in
-    let e = r .put-number .ensures .0 (omega arith) in
-    let e2 = f .put-number2 .ensures .0 (omega (arith, e .1 .0)) in
-    let e3 = k .put-number3 .ensures .0 (omega (arith, e .1 .0, e2 .1 .0)) in
-    let e4 = d .put-number4 .ensures .0 (omega (arith, e .1 .0, e2 .1 .0, e3 .1 .0)) in
-    let p =
-    line-put (l .refusal) (l .flag) (l .kept) (l .texels) (s .args .out .now) (s .args .at) _ _ _ _ _ _ _ _ (omega arith) (e .0, e .1 .1) (e2 .0, e2 .1 .1) (e3 .0, e3 .1 .1) (e4 .0, e4 .1 .1) in
-    (p .0, (omega (arith, e .1 .0, e2 .1 .0, e3 .1 .0, e4 .1 .0), p .1))
+    let out = s .args .out .now in
+    let one = number-put (l .refusal) 32 out (s .args .at) (omega arith) (r .put-number .ensures) in
+    let two = number-put (l .flag) 32 _ _ (omega (arith, one .near)) (f .put-number2 .ensures) in
+    let three = number-put (l .kept) 32 _ _ (omega (arith, one .near, two .near)) (k .put-number3 .ensures) in
+    let four = number-put (l .texels) 10 _ _ (omega (arith, one .near, two .near, three .near)) (d .put-number4 .ensures) in
+    line-put _ _ _ _ out _ _ _ _ _ _ _ _ _ (omega arith) one two three four
 
 pub put-line-spec : {M : Type 1} → statement M
 put-line-spec =
