@@ -1,5 +1,5 @@
 -- Laws of the written marks; of stores and of their places, of a word load, of runs of words, and of rows of entries; what a load that
--- is not refused may count on, and the loads as runs of words.
+-- is not refused may count on, and the loads as runs of words; the theorems of one answer.
 pub mod Again
 pub mod Halfwords
 pub mod Carry
@@ -8,3 +8,4 @@ pub mod Places
 pub mod Rows
 pub mod Runs
 pub mod Within
+pub mod One
