@@ -9,6 +9,7 @@ use borrow.Author.Tests.{ltb-false, not-false, eqb-true}
 use Rattle.rules.specs.Tile.{Tile}
 use Rattle.rules.specs.Refusal.{first}
 use Rattle.rules.specs.Calls.{loadTests, blockOutside, tileLoadOutside, tlutOutside}
+use Rattle.rules.proofs.Ranges.{neither}
 use Rattle.rules.proofs.Refused.{Passed, numbered, passed}
 use Rattle.tmem.specs.Part.{Lent}
 
