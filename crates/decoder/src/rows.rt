@@ -108,30 +108,54 @@ fn decode_row(
     }
 }
 
-// A row through the lookup table. Each arm names its kind, so that the compiler makes a loop for each.
-fn decode_paletted_row(
+// A row, observed or not. Each is named, and so is the kind by the callers: the compiler makes a loop for each.
+fn decode_named_row(
     bank: &[u8],
     table: &[u32; 256],
     plan: Plan,
     kind: u32,
-    observe: bool,
     row: Row,
     out: &mut [u8],
     seen: &mut [u8],
 )
     requires { ⌜ Ready (now bank) (now table) plan kind ⌝ }
-    requires { ⌜ observe ≡ plan .observe ⌝ }
+    requires { ⌜ RowBounds row ⌝ }
+    requires { ⌜ 4 * plan .width ≤ length (now out) ⌝ }
+    requires { ⌜ plan .step * plan .width ≤ length (now seen) ⌝ }
+    ensures { λ _. ⌜ now (out .exit) ≡ over (given (oneRow plan row) (now (bank .entry))) (now (out .entry)) ⌝ }
+    ensures { λ _. ⌜ now (seen .exit)
+        ≡ over (told (plan .observe) (trail (oneRow plan row) (now (bank .entry)))) (now (seen .entry)) ⌝ }
+{
+    if plan.observe {
+        decode_row(bank, table, plan, kind, true, row, out, seen);
+        return;
+    }
+    decode_row(bank, table, plan, kind, false, row, out, seen);
+}
+
+// A row through the lookup table.
+fn decode_paletted_row(
+    bank: &[u8],
+    table: &[u32; 256],
+    plan: Plan,
+    kind: u32,
+    row: Row,
+    out: &mut [u8],
+    seen: &mut [u8],
+)
+    requires { ⌜ Ready (now bank) (now table) plan kind ⌝ }
     requires { ⌜ 2 ≤ plan .«tlut_fmt» ⌝ }
     requires { ⌜ RowBounds row ⌝ }
     requires { ⌜ 4 * plan .width ≤ length (now out) ⌝ }
     requires { ⌜ plan .step * plan .width ≤ length (now seen) ⌝ }
     ensures { λ _. ⌜ now (out .exit) ≡ over (given (oneRow plan row) (now (bank .entry))) (now (out .entry)) ⌝ }
-    ensures { λ _. ⌜ now (seen .exit) ≡ over (told (plan .observe) (trail (oneRow plan row) (now (bank .entry)))) (now (seen .entry)) ⌝ }
+    ensures { λ _. ⌜ now (seen .exit)
+        ≡ over (told (plan .observe) (trail (oneRow plan row) (now (bank .entry)))) (now (seen .entry)) ⌝ }
 {
     match kind {
-        WHOLE_BYTE => decode_row(bank, table, plan, WHOLE_BYTE, observe, row, out, seen),
-        NIBBLE => decode_row(bank, table, plan, NIBBLE, observe, row, out, seen),
-        _ => decode_row(bank, table, plan, HIGH_NIBBLE, observe, row, out, seen),
+        WHOLE_BYTE => decode_named_row(bank, table, plan, WHOLE_BYTE, row, out, seen),
+        NIBBLE => decode_named_row(bank, table, plan, NIBBLE, row, out, seen),
+        _ => decode_named_row(bank, table, plan, HIGH_NIBBLE, row, out, seen),
     }
 }
 
@@ -141,62 +165,35 @@ fn decode_direct_row(
     table: &[u32; 256],
     plan: Plan,
     kind: u32,
-    observe: bool,
     row: Row,
     out: &mut [u8],
     seen: &mut [u8],
 )
     requires { ⌜ Ready (now bank) (now table) plan kind ⌝ }
-    requires { ⌜ observe ≡ plan .observe ⌝ }
     requires { ⌜ plan .«tlut_fmt» < 2 ⌝ }
     requires { ⌜ RowBounds row ⌝ }
     requires { ⌜ 4 * plan .width ≤ length (now out) ⌝ }
     requires { ⌜ plan .step * plan .width ≤ length (now seen) ⌝ }
     ensures { λ _. ⌜ now (out .exit) ≡ over (given (oneRow plan row) (now (bank .entry))) (now (out .entry)) ⌝ }
-    ensures { λ _. ⌜ now (seen .exit) ≡ over (told (plan .observe) (trail (oneRow plan row) (now (bank .entry)))) (now (seen .entry)) ⌝ }
+    ensures { λ _. ⌜ now (seen .exit)
+        ≡ over (told (plan .observe) (trail (oneRow plan row) (now (bank .entry)))) (now (seen .entry)) ⌝ }
 {
     match kind {
-        RGBA16 => decode_row(bank, table, plan, RGBA16, observe, row, out, seen),
-        RGBA32 => decode_row(bank, table, plan, RGBA32, observe, row, out, seen),
-        CI4 => decode_row(bank, table, plan, CI4, observe, row, out, seen),
-        CI8 => decode_row(bank, table, plan, CI8, observe, row, out, seen),
-        CI16 => decode_row(bank, table, plan, CI16, observe, row, out, seen),
-        CI16_OF_SIZE_3 => decode_row(bank, table, plan, CI16_OF_SIZE_3, observe, row, out, seen),
-        IA4 => decode_row(bank, table, plan, IA4, observe, row, out, seen),
-        IA8 => decode_row(bank, table, plan, IA8, observe, row, out, seen),
-        IA16 => decode_row(bank, table, plan, IA16, observe, row, out, seen),
-        I4 => decode_row(bank, table, plan, I4, observe, row, out, seen),
-        _ => decode_row(bank, table, plan, I8, observe, row, out, seen),
+        RGBA16 => decode_named_row(bank, table, plan, RGBA16, row, out, seen),
+        RGBA32 => decode_named_row(bank, table, plan, RGBA32, row, out, seen),
+        CI4 => decode_named_row(bank, table, plan, CI4, row, out, seen),
+        CI8 => decode_named_row(bank, table, plan, CI8, row, out, seen),
+        CI16 => decode_named_row(bank, table, plan, CI16, row, out, seen),
+        CI16_OF_SIZE_3 => decode_named_row(bank, table, plan, CI16_OF_SIZE_3, row, out, seen),
+        IA4 => decode_named_row(bank, table, plan, IA4, row, out, seen),
+        IA8 => decode_named_row(bank, table, plan, IA8, row, out, seen),
+        IA16 => decode_named_row(bank, table, plan, IA16, row, out, seen),
+        I4 => decode_named_row(bank, table, plan, I4, row, out, seen),
+        _ => decode_named_row(bank, table, plan, I8, row, out, seen),
     }
 }
 
 // A row, with a lookup table or without.
-fn decode_kind_row(
-    bank: &[u8],
-    table: &[u32; 256],
-    plan: Plan,
-    kind: u32,
-    observe: bool,
-    row: Row,
-    out: &mut [u8],
-    seen: &mut [u8],
-)
-    requires { ⌜ Ready (now bank) (now table) plan kind ⌝ }
-    requires { ⌜ observe ≡ plan .observe ⌝ }
-    requires { ⌜ RowBounds row ⌝ }
-    requires { ⌜ 4 * plan .width ≤ length (now out) ⌝ }
-    requires { ⌜ plan .step * plan .width ≤ length (now seen) ⌝ }
-    ensures { λ _. ⌜ now (out .exit) ≡ over (given (oneRow plan row) (now (bank .entry))) (now (out .entry)) ⌝ }
-    ensures { λ _. ⌜ now (seen .exit) ≡ over (told (plan .observe) (trail (oneRow plan row) (now (bank .entry)))) (now (seen .entry)) ⌝ }
-{
-    if 2 <= plan.tlut_fmt {
-        decode_paletted_row(bank, table, plan, kind, observe, row, out, seen);
-        return;
-    }
-    decode_direct_row(bank, table, plan, kind, observe, row, out, seen);
-}
-
-// A row, observed or not.
 fn paint_row(
     bank: &[u8],
     table: &[u32; 256],
@@ -211,13 +208,14 @@ fn paint_row(
     requires { ⌜ 4 * plan .width ≤ length (now out) ⌝ }
     requires { ⌜ plan .step * plan .width ≤ length (now seen) ⌝ }
     ensures { λ _. ⌜ now (out .exit) ≡ over (given (oneRow plan row) (now (bank .entry))) (now (out .entry)) ⌝ }
-    ensures { λ _. ⌜ now (seen .exit) ≡ over (told (plan .observe) (trail (oneRow plan row) (now (bank .entry)))) (now (seen .entry)) ⌝ }
+    ensures { λ _. ⌜ now (seen .exit)
+        ≡ over (told (plan .observe) (trail (oneRow plan row) (now (bank .entry)))) (now (seen .entry)) ⌝ }
 {
-    if plan.observe {
-        decode_kind_row(bank, table, plan, kind, true, row, out, seen);
+    if 2 <= plan.tlut_fmt {
+        decode_paletted_row(bank, table, plan, kind, row, out, seen);
         return;
     }
-    decode_kind_row(bank, table, plan, kind, false, row, out, seen);
+    decode_direct_row(bank, table, plan, kind, row, out, seen);
 }
 
 // All rows. Row y is written through the part of the picture from 4 times width times y on, and of the trail likewise.

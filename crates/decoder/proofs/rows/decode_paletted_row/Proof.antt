@@ -5,21 +5,21 @@ use borrow.Author.Needs.{needs}
 use Rattle.decoder.proofs.rows.decode_paletted_row.Statement.{statement}
 use Rattle.decoder.proofs.rows.decode_paletted_row.Tie as tie
 
-decode-row-requires : tie.Need-decode-row-requires
-decode-row-requires c κs =
+decode-named-row-requires : tie.Need-decode-named-row-requires
+decode-named-row-requires c κs =
     let s = c .before .before .before .before .before .before in
-    (rw (c .before .before .match .keys1) at (s .pre .0), (s .pre .1 .0, s .pre .1 .1 .1))
+    (rw (c .before .before .match .keys1) at (s .pre .0), s .pre .1 .1)
 
-decode-row-requires-2 : tie.Need-decode-row-requires-2
-decode-row-requires-2 c κs =
+decode-named-row-requires-2 : tie.Need-decode-named-row-requires-2
+decode-named-row-requires-2 c κs =
     let s = c .before .before .before .before .before .before in
-    (rw (c .before .before .match .keys2) at (s .pre .0), (s .pre .1 .0, s .pre .1 .1 .1))
+    (rw (c .before .before .match .keys2) at (s .pre .0), s .pre .1 .1)
 
-decode-row-requires-3 : tie.Need-decode-row-requires-3
-decode-row-requires-3 c κs =
+decode-named-row-requires-3 : tie.Need-decode-named-row-requires-3
+decode-named-row-requires-3 c κs =
     let s = c .before .before .before .before .before .before in
     let m = c .before .before .match .rest in
-    (rw (third (tileOf (s .args .plan .tile)) (s .args .plan .«tlut_fmt») _ (s .pre .0 .kind) (s .pre .1 .1 .0) (m .0 .1) (m .1)) at (s .pre .0), (s .pre .1 .0, s .pre .1 .1 .1))
+    (rw (third (tileOf (s .args .plan .tile)) (s .args .plan .«tlut_fmt») _ (s .pre .0 .kind) (s .pre .1 .0) (m .0 .1) (m .1)) at (s .pre .0), s .pre .1 .1)
 
 same-length : tie.Need-same-length
 same-length c = search needs
@@ -52,9 +52,9 @@ pub decode-paletted-row-spec : {M : Type 1} → statement M
 decode-paletted-row-spec =
     tie.close
     (tie.spec
-    decode-row-requires
-    decode-row-requires-2
-    decode-row-requires-3
+    decode-named-row-requires
+    decode-named-row-requires-2
+    decode-named-row-requires-3
     same-length
     same-length-2
     returns

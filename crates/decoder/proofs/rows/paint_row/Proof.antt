@@ -1,11 +1,12 @@
 -- `decoder::rows::paint_row` is the row that its plan asks for. Assumes nothing.
-use mathlib.Core.Path.{sym}
 use borrow.Author.Needs.{needs}
 use Rattle.decoder.proofs.rows.paint_row.Statement.{statement}
 use Rattle.decoder.proofs.rows.paint_row.Tie as tie
 
-decode-kind-row-requires : tie.Need-decode-kind-row-requires
-decode-kind-row-requires c κs = let s = c .before .before .before .before .before .before in (s .pre .0, (sym (c .before .before .if1 .taken), s .pre .1))
+decode-paletted-row-requires : tie.Need-decode-paletted-row-requires
+decode-paletted-row-requires c κs =
+    let s = c .before .before .before .before .before .before .before in
+    (s .pre .0, (c .before .before .if1 .taken, s .pre .1))
 
 same-length : tie.Need-same-length
 same-length c = search needs
@@ -16,8 +17,10 @@ same-length-2 c = search needs
 returns : tie.Need-returns
 returns c = search needs
 
-decode-kind-row-requires-2 : tie.Need-decode-kind-row-requires-2
-decode-kind-row-requires-2 c κs = let s = c .before .before .before .before .before .before in (s .pre .0, (sym (c .before .before .if1 .left), s .pre .1))
+decode-direct-row-requires : tie.Need-decode-direct-row-requires
+decode-direct-row-requires c κs =
+    let s = c .before .before .before .before .before .before .before in
+    (s .pre .0, (c .before .before .if1 .left, s .pre .1))
 
 same-length-3 : tie.Need-same-length-3
 same-length-3 c = search needs
@@ -32,11 +35,11 @@ pub paint-row-spec : {M : Type 1} → statement M
 paint-row-spec =
     tie.close
     (tie.spec
-    decode-kind-row-requires
+    decode-paletted-row-requires
     same-length
     same-length-2
     returns
-    decode-kind-row-requires-2
+    decode-direct-row-requires
     same-length-3
     same-length-4
     returns-2)
