@@ -63,12 +63,28 @@ def closing(text, opening):
     return len(text)
 
 
+def parts(text):
+    """The parts of a bare text between its commas, those inside brackets aside."""
+    found, start, place = [], 0, 0
+    for mark in re.finditer(r"[,(\[{]", text):
+        if mark.start() < place:
+            continue
+        if mark[0] == ",":
+            found.append(text[start : mark.start()])
+            start = mark.end()
+        else:
+            place = closing(text, mark.start())
+    return [part.strip() for part in found + [text[start:]] if part.strip()]
+
+
 class Function(NamedTuple):
     """A function of a source file. The numbers are places in the file's text."""
 
     path: list  # the names that lead to it in its crate
     public: bool
     parameters: list
+    lent: list  # the places, from 0, of the parameters that are lent to be written
+    answers: bool
     clauses: list  # pairs: requires, ensures or ghost, and the clause's text on one line
     start: int
     body: int
@@ -109,8 +125,12 @@ def functions(path):
         after = closing(text, opening)
         clauses, body, end = head(text, after)
         names = module(path) + within(blocks, part.start(3)) + [part[3]]
+        public = part[1] is not None and part[2] is None
+        taken = parts(text[opening + 1 : after - 1])
+        lent = [place for place, one in enumerate(taken) if re.search(r":\s*&\s*('\w+\s+)?mut\b", one)]
+        answers = re.match(r"\s*->", text[after:]) is not None
         parameters = NAMED.findall(text[opening:after])
-        yield Function(names, part[1] is not None and part[2] is None, parameters, clauses, part.start(), body, end)
+        yield Function(names, public, parameters, lent, answers, clauses, part.start(), body, end)
 
 
 def items(path):

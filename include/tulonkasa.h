@@ -10,7 +10,7 @@
  *   no state of its own, so calls on different buffers may run at the same time.
  * - Buffers of one call must not overlap. A buffer of length 0 may have a null pointer.
  * - Every number is taken. One that is out of range, or a buffer of a wrong length, is refused with a number (TK_REFUSED_..
- *   below). The tests are made in the order of those numbers, each call only those that it has a use for.
+ *   below). Each call tests only what it has a use for, in the order in which its comment lists its refusals.
  * - A refused call changes no buffer, and its other answers are 0.
  * - Success is the refusal 0, TK_DONE.
  *
@@ -109,7 +109,8 @@ typedef struct tk_tile {
 
 /* A load stores bytes of the source into the bank and marks each stored address in the written map, which only gains marks.
  * The source has 0 to 65,536 bytes; past its end it is read as zero. Of the tile a load takes fmt, siz, line and tmem_addr.
- * image_siz, 0..3, is the size of the image that is loaded from.
+ * image_siz, 0..3, is the size of the image that is loaded from. On odd rows the two halves of each word change places, as
+ * making a picture expects.
  * Refuses 1 (bank, written), 2, 4. Answers the count of stores. */
 
 /* words: 0..2,048 words of eight bytes in a row. dxt: 0..4,095, added up word by word; each 2,048 begins a new row. */
@@ -122,9 +123,17 @@ tk_answer tk_load_tile(uint8_t *bank, size_t bank_length, uint8_t *written, size
                        size_t source_length, uint32_t fmt, uint32_t siz, uint32_t line, uint32_t tmem_addr,
                        uint32_t image_siz, uint32_t rows, uint32_t words, uint32_t stride);
 
-/* A palette: an entry of two bytes is stored four times over, so that it fills a slot of eight. count: 0..1,024 entries a
- * row. rows: 1..1,024. stride: 0..65,535 source bytes from row to row. One row of an image of size 1 or 3 is taken eight
- * source bytes at a time, each for eight or two entries, and only the first entry of each is stored. */
+/* A palette: an entry of two bytes is stored four times over. count: 0..1,024 entries a row. rows: 1..1,024. stride:
+ * 0..65,535 source bytes from row to row.
+ *
+ * One row of an image of size 1, 2 or 3 goes step by step, as the hardware does it. With size 2 a step is an entry. Entries
+ * then stand 8 bytes apart for siz 0, 16 for siz 1 and 32 for siz 2 and 3, and pairs (0,3) and (1,any) split them over both
+ * halves of the bank: use siz 0, and not fmt 1, for a packed palette. With size 1 or 3 a step covers eight or two entries
+ * and eight source bytes, and only its first entry is stored; with size 3 and siz 0 every second step overwrites the one
+ * before it. Here line and stride have no effect.
+ *
+ * Several rows, or an image of size 0, store entry i of row r from byte 8 tmem_addr + 32 r line + 8 i on, wrapped at the
+ * bank's end: rows step 32 line. Here fmt and siz have no effect. */
 tk_answer tk_load_tlut(uint8_t *bank, size_t bank_length, uint8_t *written, size_t written_length, const uint8_t *source,
                        size_t source_length, uint32_t fmt, uint32_t siz, uint32_t line, uint32_t tmem_addr,
                        uint32_t image_siz, uint32_t count, uint32_t rows, uint32_t stride);

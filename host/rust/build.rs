@@ -10,7 +10,7 @@ fn main() {
             .join("../../target/staticlib/libtulonkasa.a"),
     };
     let archive = archive.canonicalize().unwrap_or_else(|error| {
-        panic!("{}: {error}. Make it with `rt staticlib tulonkasa`, or name it by TULONKASA_ARCHIVE.", archive.display())
+        panic!("{}: {error}. Make it with host/archive, or name it by TULONKASA_ARCHIVE.", archive.display())
     });
     let name = archive
         .file_name()

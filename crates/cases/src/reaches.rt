@@ -4,7 +4,7 @@ use crate::buffers;
 use crate::line;
 use crate::line::OWN;
 use crate::show;
-use lane_check::lane;
+use reach::lane;
 use rdp::tile::TileDescriptor;
 
 // The own column of `m`, that of `w`, and those of `l`: the bytes of bank and map, and where the bank has another byte.

@@ -1,6 +1,6 @@
 -- A texel that the step knows gives four bytes, and every texel makes the reads of its pair.
 use mathlib.Core.Path.{_≡_, refl, ap}
-use mathlib.Core.Bool.{Bool, true, false, cond, not, _||_, false≢true}
+use mathlib.Core.Bool.{Bool, true, false, cond, not, _||_}
 use mathlib.Core.List.{List, [], _∷_}
 use Prim.Native.Nat.{ℕ, _+_, _*_, _<_, _≤_}
 use native.Mathlib.Decide.{decLt}
@@ -12,25 +12,11 @@ use Rattle.rules.specs.Reading.{given, trail}
 use Rattle.rules.specs.Tile.{Tile}
 use Rattle.rules.specs.Texdec.{Format, rgba16, rgba32, ci4, ci8, ci16, ia4, ia8, ia16, i4, i8, unknown, formatOf, known, tlut, stepKnows, entryOf, rgba16Texel, ia16Texel}
 use Rattle.rules.specs.Picture.{address, direct, index, entryAt, paletted, texel, formatReads, readsEach}
+use Rattle.rules.proofs.Formats.{texel-tlut, texel-direct, direct-four}
 use Rattle.decoder.specs.Rows.{four, trailStep}
 use Rattle.decoder.proofs.Formats.{format-few}
-use Rattle.decoder.proofs.Texels.{texel-tlut, texel-direct}
 
 module _ (base palette : ℕ) (odd : Bool) (rel x : ℕ) (bank : List ℕ) where
-  direct-four : (f : Format) → known f ≡ true → length (given (direct f base palette odd rel x) bank) ≡ 4
-  unfolding direct given
-  direct-four rgba16 h = refl
-  direct-four rgba32 h = refl
-  direct-four ci4 h = refl
-  direct-four ci8 h = refl
-  direct-four ci16 h = refl
-  direct-four ia4 h = refl
-  direct-four ia8 h = refl
-  direct-four ia16 h = refl
-  direct-four i4 h = refl
-  direct-four i8 h = refl
-  direct-four unknown h = absurd (false≢true h)
-
   direct-reads : (f : Format) → length (trail (direct f base palette odd rel x) bank) ≡ formatReads f
   unfolding direct trail
   direct-reads rgba16 = refl
@@ -61,7 +47,7 @@ module _ (t : Tile) (mode lane : ℕ) (odd : Bool) (rel x : ℕ) (bank : List �
   texel-four h = go (decLt mode 2)
     where
       go : Dec (mode < 2) → length (given (texel t mode lane odd rel x) bank) ≡ 4
-      go (yes p) = rw (texel-direct t mode lane odd rel x p) (direct-four _ _ odd rel x bank (formatOf (t .fmt) (t .siz)) (rw (lt-leb 2 mode p) at h))
+      go (yes p) = rw (texel-direct t mode lane odd rel x p) (direct-four (formatOf (t .fmt) (t .siz)) _ _ odd rel x bank (rw (lt-leb 2 mode p) at h))
       go (no p) = let q : 2 ≤ mode = omega arith in rw (texel-tlut t mode lane odd rel x q) paletted-four
 
   pub texel-reads : length (trail (texel t mode lane odd rel x) bank) ≡ readsEach t mode

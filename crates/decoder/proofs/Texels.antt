@@ -1,29 +1,19 @@
--- Laws of a texel: which of the two rules it follows, and a texel through the lookup table from its loads.
+-- A texel through the lookup table, from its loads.
 use mathlib.Core.Path.{_≡_, refl}
 use mathlib.Core.Bool.{Bool}
 use mathlib.Core.List.{List, [], _∷_}
-use Prim.Native.Nat.{ℕ, _+_, _*_, _<_, _≤_}
+use Prim.Native.Nat.{ℕ, _+_, _*_}
 use native.Mathlib.Nat.{le-refl}
 use native.Mathlib.Omega.{arith}
 use lib.Seq.{take-all}
-use borrow.Author.Tests.{le-leb, lt-leb}
 use Rattle.rules.specs.Reading.{given, trail}
-use Rattle.rules.specs.Texdec.{formatOf}
 use Rattle.rules.specs.Tile.{Tile}
-use Rattle.rules.specs.Picture.{texel, paletted, direct, address, index, entryAt}
+use Rattle.rules.specs.Picture.{paletted, address, index, entryAt}
 use Rattle.decoder.specs.declared.load.Load.{Load}
 use Rattle.decoder.specs.Steps.{loadAt, Decodes}
 use Rattle.decoder.specs.Tables.{entryGives}
 
 module _ (t : Tile) (mode lane : ℕ) (odd : Bool) (rel x : ℕ) where
-  pub texel-tlut : 2 ≤ mode → texel t mode lane odd rel x ≡ paletted t mode lane odd rel x
-  unfolding texel
-  texel-tlut h = rw (texel, le-leb 2 mode h)
-
-  pub texel-direct : mode < 2 → texel t mode lane odd rel x ≡ direct (formatOf (t .fmt) (t .siz)) (8 * t .tmem-addr) (t .palette) odd rel x
-  unfolding texel
-  texel-direct h = rw (texel, lt-leb 2 mode h)
-
   -- an index byte and the entry that it stands for make a texel
   pub paletted-is : (bank : List ℕ) (base i : ℕ) (l : Load) (channels : List ℕ) → base ≡ 8 * t .tmem-addr
       → l ≡ loadAt bank (address 2048 base odd rel) → i ≡ index t x (l .byte) → channels ≡ entryGives mode lane bank i

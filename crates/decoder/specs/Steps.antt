@@ -1,4 +1,4 @@
--- Parts of the rules under names of their own, for the contracts below the pictures. The public contracts cite the rules alone.
+-- Parts of the rules under names of their own, for the contracts of the crate's own functions.
 use mathlib.Core.Path.{_≡_}
 use mathlib.Core.Bool.{cond}
 use mathlib.Core.List.{List}

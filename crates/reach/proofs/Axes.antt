@@ -4,7 +4,7 @@ use Prim.Native.Nat.{ℕ, _*_, _≤_, _^_, max}
 use native.Mathlib.Omega.{arith}
 use native.Mathlib.Nat.{div-le-self}
 use lib.Pow.{pow-mono}
-use Rattle.rules.specs.Tile.{Tile, sideLimit}
+use Rattle.rules.specs.Tile.{Tile, bankSize, sideLimit}
 use Rattle.rules.specs.Reach.{trailingZeros, extent, rowBytes, rowPeriod, reachRows}
 use Rattle.rules.specs.Sampling.{repeats}
 
@@ -17,10 +17,10 @@ extent-le cm mask size m s = go (repeats cm mask)
     go false = omega arith
 
 -- a row reaches the bank's bytes at most, and the addresses repeat after 4,096 rows at most
-pub row-bytes-le : (t : Tile) → rowBytes t ≤ 4096
+pub row-bytes-le : (t : Tile) → rowBytes t ≤ bankSize
 unfolding rowBytes
 row-bytes-le t = omega arith
 
-pub rows-le : (t : Tile) → reachRows t ≤ 4096
+pub rows-le : (t : Tile) → reachRows t ≤ bankSize
 unfolding reachRows rowPeriod
-rows-le t = omega (arith, div-le-self 4096 (2 ^ trailingZeros 12 (8 * t .line)))
+rows-le t = omega (arith, div-le-self bankSize (2 ^ trailingZeros 12 (8 * t .line)))

@@ -1,42 +1,43 @@
 -- Laws of a list that goes on by the places of one word: marking them, or looking for one, is one step on the word's byte.
 use mathlib.Core.Path.{_≡_, refl, ap, ap₂, sym, _∙_}
-use mathlib.Core.Bool.{Bool, true, false, _||_}
+use mathlib.Core.Bool.{Bool, true, false, _||_, or-false, or-assoc}
 use mathlib.Core.List.{List}
 use Prim.Native.Nat.{ℕ, zero, suc, _+_, _*_, _^_, _<_}
 use native.Mathlib.Omega.{arith}
 use native.Mathlib.Nat.{add-zero}
 use lib.Bits.{bitOr}
 use Rattle.rules.specs.Base.{tab, concat, any, marks, isMarked}
-use Rattle.rules.proofs.Bits.{joined, ors, joined-none, joined-more, marked-word, part-marks}
-use Rattle.reach.specs.Words.{meets, twin, wordJoined, wordMeets}
-use Rattle.reach.proofs.Joined.{any-more}
-use Rattle.reach.proofs.Bytes.{joined-swap, meets-none, meets-more, is-marked-word}
+use Rattle.rules.specs.Tile.{paletteBase}
+use Rattle.rules.proofs.Tables.{concat-more}
+use Rattle.rules.proofs.Maps.{marks-append}
+use Rattle.reach.specs.Words.{ors, joined, meets, lowWords, twin, wordJoined, wordMeets}
+use Rattle.reach.proofs.Joined.{one-more, any-more}
+use Rattle.reach.proofs.Bytes.{joined-none, joined-more, joined-swap, marked-word, meets-none, meets-more, is-marked-word}
 
-or-nothing : (a : Bool) → (a || false) ≡ a
-or-nothing true = refl
-or-nothing false = refl
-
-or-group : (a b c : Bool) → ((a || b) || c) ≡ (a || (b || c))
-or-group true b c = refl
-or-group false b c = refl
-
-one-more : (a n : ℕ) → a + suc n ≡ (a + n) + 1
-one-more a n = omega arith
+-- where place k does to a map what J does with the bits h k
+module _ (J : List ℕ → ℕ → List ℕ) (none : (l : List ℕ) → J l 0 ≡ l) (more : (l : List ℕ) (a b : ℕ) → J (J l a) b ≡ J l (bitOr a b))
+    (f : ℕ → List ℕ) (h : ℕ → ℕ) (m : List ℕ) (a : ℕ) where
+  pub part-marks : (n : ℕ) → ((k : ℕ) → k < n → (l : List ℕ) → marks l (f (a + k)) ≡ J l (h k))
+      → marks m (concat (tab (a + n) f)) ≡ J (marks m (concat (tab a f))) (ors n h)
+  unfolding ors
+  part-marks zero e = rw add-zero (sym (none _))
+  part-marks (suc n) e =
+      rw (one-more, concat-more, marks-append, part-marks n (λ k q. e k (omega arith)), e n (omega arith), more)
 
 -- where place k has what the test t finds in the bits h k
 module _ (p : ℕ → Bool) (t : ℕ → Bool) (none : t 0 ≡ false) (more : (a b : ℕ) → t (bitOr a b) ≡ (t a || t b))
     (f : ℕ → List ℕ) (h : ℕ → ℕ) (a : ℕ) where
-  pub part-any : (n : ℕ) → ((k : ℕ) → k < n → any p (f (a + k)) ≡ t (h k))
+  part-any : (n : ℕ) → ((k : ℕ) → k < n → any p (f (a + k)) ≡ t (h k))
       → any p (concat (tab (a + n) f)) ≡ (any p (concat (tab a f)) || t (ors n h))
   unfolding ors
-  part-any zero e = rw (add-zero, none) (sym (or-nothing _))
+  part-any zero e = rw (add-zero, none) (sym (or-false _))
   part-any (suc n) e =
       rw (one-more, any-more p f (a + n), part-any n (λ k q. e k (omega arith)), e n (omega arith), more)
-      (or-group (any p (concat (tab a f))) (t (ors n h)) (t (h n)))
+      (or-assoc (any p (concat (tab a f))) (t (ors n h)) (t (h n)))
 
 -- the same for the word w, with the one that it stands for
 module _ (w : ℕ) where
-  apart : w ≡ w + 256 → ⊥
+  apart : w ≡ w + lowWords → ⊥
   apart e = omega arith
 
   word-none : (twice : Bool) (m : List ℕ) → wordJoined twice m w 0 ≡ m
@@ -44,20 +45,21 @@ module _ (w : ℕ) where
   word-none true m = joined-none _ _ ∙ joined-none m w
   word-none false m = joined-none m w
 
-  word-more : (twice : Bool) (m : List ℕ) (a b : ℕ) → wordJoined twice (wordJoined twice m w a) w b ≡ wordJoined twice m w (bitOr a b)
+  word-more : (twice : Bool) (m : List ℕ) (a b : ℕ)
+      → wordJoined twice (wordJoined twice m w a) w b ≡ wordJoined twice m w (bitOr a b)
   unfolding wordJoined
   word-more true m a b =
-      ap (λ l. joined l (w + 256) b)
-      (joined-swap (joined m w a) (w + 256) w a b (λ e. apart (sym e)) ∙ ap (λ l. joined l (w + 256) a) (joined-more m w a b))
-      ∙ joined-more (joined m w (bitOr a b)) (w + 256) a b
+      ap (λ l. joined l (w + lowWords) b)
+      (joined-swap (joined m w a) (w + lowWords) w a b (λ e. apart (sym e)) ∙ ap (λ l. joined l (w + lowWords) a) (joined-more m w a b))
+      ∙ joined-more (joined m w (bitOr a b)) (w + lowWords) a b
   word-more false m a b = joined-more m w a b
 
-  upper : (s : ℕ) → 8 * w + s + 2048 ≡ 8 * (w + 256) + s
+  upper : (s : ℕ) → 8 * w + s + paletteBase ≡ 8 * (w + lowWords) + s
   upper s = omega arith
 
   word-twin : (twice : Bool) (s : ℕ) → s < 8 → (m : List ℕ) → marks m (twin twice (8 * w + s)) ≡ wordJoined twice m w (2 ^ s)
   unfolding wordJoined twin marks
-  word-twin true s h m = rw (upper, marked-word _ w s h, marked-word _ (w + 256) s h)
+  word-twin true s h m = rw (upper, marked-word _ w s h, marked-word _ (w + lowWords) s h)
   word-twin false s h m = marked-word m w s h
 
   -- the list goes on by n places of the word, place k at bit g k
@@ -71,13 +73,14 @@ module _ (w : ℕ) where
   module _ (m : List ℕ) where
     found-none : (twice : Bool) → wordMeets twice m w 0 ≡ false
     unfolding wordMeets
-    found-none true = rw (meets-none m w) (meets-none m (w + 256))
+    found-none true = rw (meets-none m w) (meets-none m (w + lowWords))
     found-none false = meets-none m w
 
     found-more : (twice : Bool) (a b : ℕ) → wordMeets twice m w (bitOr a b) ≡ (wordMeets twice m w a || wordMeets twice m w b)
     unfolding wordMeets
     found-more true a b =
-        ap₂ _||_ (meets-more m w a b) (meets-more m (w + 256) a b) ∙ across (meets m w a) (meets m w b) (meets m (w + 256) a) (meets m (w + 256) b)
+        ap₂ _||_ (meets-more m w a b) (meets-more m (w + lowWords) a b)
+        ∙ across (meets m w a) (meets m w b) (meets m (w + lowWords) a) (meets m (w + lowWords) b)
       where
         across : (p q r s : Bool) → ((p || q) || (r || s)) ≡ ((p || r) || (q || s))
         across true q r s = refl
@@ -88,12 +91,14 @@ module _ (w : ℕ) where
 
     found-twin : (twice : Bool) (s : ℕ) → s < 8 → any (isMarked m) (twin twice (8 * w + s)) ≡ wordMeets twice m w (2 ^ s)
     unfolding wordMeets twin any
-    found-twin true s h = rw (upper, is-marked-word m w s h, is-marked-word m (w + 256) s h, or-nothing (meets m (w + 256) (2 ^ s)))
-    found-twin false s h = rw (is-marked-word m w s h) (or-nothing _)
+    found-twin true s h =
+        rw (upper, is-marked-word m w s h, is-marked-word m (w + lowWords) s h, or-false (meets m (w + lowWords) (2 ^ s)))
+    found-twin false s h = rw (is-marked-word m w s h) (or-false _)
 
     pub word-any : (twice : Bool) (f : ℕ → List ℕ) (g : ℕ → ℕ) (a n : ℕ)
         → ((k : ℕ) → k < n → (g k < 8) × (f (a + k) ≡ twin twice (8 * w + g k)))
-        → any (isMarked m) (concat (tab (a + n) f)) ≡ (any (isMarked m) (concat (tab a f)) || wordMeets twice m w (ors n (λ k. 2 ^ g k)))
+        → any (isMarked m) (concat (tab (a + n) f))
+        ≡ (any (isMarked m) (concat (tab a f)) || wordMeets twice m w (ors n (λ k. 2 ^ g k)))
     word-any twice f g a n e =
         part-any (isMarked m) (wordMeets twice m w) (found-none twice) (found-more twice) f (λ k. 2 ^ g k) a n
         (λ k h. rw (e k h .1) (found-twin twice (g k) (e k h .0)))

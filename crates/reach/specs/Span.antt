@@ -5,40 +5,49 @@ use mathlib.Core.List.{List}
 use Prim.Native.Nat.{ℕ, _+_, _*_, _-_, _/_, _%_, _^_, _≤_, min}
 use lib.Bits.{bitOr}
 use Rattle.rules.specs.Base.{tab, concat}
+use Rattle.rules.specs.Tile.{bankSize, paletteBase, bankWords}
 use Rattle.rules.specs.Picture.{address, swapOdd}
-use Rattle.rules.proofs.Bits.{ors}
-use Rattle.reach.specs.Words.{twin}
+use Rattle.reach.specs.Words.{ors, lowWords, twin}
 use Rattle.reach.specs.declared.span.Span.{Span}
 
--- the step from one place to the next
-abbrev pub stepOf : Span → ℕ
-stepOf s = cond (s .sparse) 2 1
+-- the words of the bank, or of its lower half, and their bytes
+abbrev pub wordsOf : Bool → ℕ
+wordsOf low = cond low lowWords bankWords
 
--- how many places the first n bytes have
-abbrev pub placesIn : Span → ℕ → ℕ
-placesIn s n = (n + (stepOf s - 1)) / stepOf s
+abbrev pub bytesOf : Bool → ℕ
+bytesOf low = cond low paletteBase bankSize
+
+-- the step from one place to the next, and how many places n bytes have
+abbrev pub stepOf : Bool → ℕ
+stepOf sparse = cond sparse 2 1
+
+abbrev pub placesIn : Bool → ℕ → ℕ
+placesIn sparse n = (n + (stepOf sparse - 1)) / stepOf sparse
 
 -- what place i reaches
 unfoldable pub reachedAt : Span → ℕ → List ℕ
-reachedAt s i = twin (s .twice) (address (cond (s .low) 2048 4096) (8 * s .first) (s .odd) (stepOf s * i))
+reachedAt s i = twin (s .twice) (address (bytesOf (s .low)) (8 * s .first .0) (s .odd) (stepOf (s .sparse) * i))
 
 unfoldable pub reached : Span → List ℕ
-reached s = concat (tab (placesIn s (s .bytes)) (reachedAt s))
+reached s = concat (tab (placesIn (s .sparse) (s .bytes)) (reachedAt s))
+
+-- how many words it has, the last one whole or not
+abbrev pub wordCount : Span → ℕ
+wordCount s = (s .bytes + 7) / 8
 
 -- where word w is in the bank
 abbrev pub wordIn : Span → ℕ → ℕ
-wordIn s w = (s .first + w) % cond (s .low) 256 512
+wordIn s w = (s .first .0 + w) % wordsOf (s .low)
 
 -- the bits of its bytes
 unfoldable pub bitsIn : Span → ℕ → ℕ
-bitsIn s w = ors (placesIn s (min (s .bytes - 8 * w) 8)) (λ j. 2 ^ swapOdd (s .odd) (stepOf s * j))
+bitsIn s w = ors (placesIn (s .sparse) (min (s .bytes - 8 * w) 8)) (λ j. 2 ^ swapOdd (s .odd) (stepOf (s .sparse) * j))
 
 -- the bits of a word whose halves change places on odd rows
 abbrev pub inHalves : Bool → ℕ → ℕ
 inHalves odd bits = cond odd (bitOr (bits * 2 ^ 4 % 2 ^ 8) (bits / 2 ^ 4)) bits
 
--- the numbers of a span that its words are computed from
+-- a span has the bank's bytes at most, and addresses that stand for others are in the lower half
 pub record Bounds (s : Span) : Type 0 where
-  pub first : s .first ≤ 2097152
-  pub bytes : s .bytes ≤ 4096
+  pub bytes : s .bytes ≤ bankSize
   pub twice : s .twice ≡ true → s .low ≡ true

@@ -5,6 +5,10 @@ ghost use Rattle.rules.specs.Reach.{extent, sizedBytes, rowBytes, rowPeriod, re
 ghost use Rattle.rdp.specs.View.{tileOf};
 ghost use Rattle.rules.specs.Tile.{InRange};
 use rdp::tile::TileDescriptor;
+use tmem::bank::Bank;
+
+// The bits of an address of the bank: its size is 2 to this.
+const ADDRESS_BITS: usize = 12;
 
 // The smaller of two numbers.
 fn lesser(a: usize, b: usize) -> usize
@@ -53,7 +57,7 @@ pub(crate) fn row_bytes(tile: TileDescriptor) -> usize
 {
     lesser(
         sized_bytes(tile.siz, axis_extent(tile.cms, tile.masks, tile.width)),
-        4096,
+        Bank::SIZE,
     )
 }
 
@@ -64,7 +68,7 @@ fn row_period(tile: TileDescriptor) -> usize
 {
     let stride = tile.line.bytes();
     let zeros = usize::trailing_zeros(stride.0) as usize;
-    greater(2, 4096 >> lesser(zeros, 12))
+    greater(2, Bank::SIZE >> lesser(zeros, ADDRESS_BITS))
 }
 
 // The rows that are reached.

@@ -1,10 +1,12 @@
 // A map with no bit set.
 ghost use mathlib.Core.Path.{_≡_};
-ghost use lib.ListN.{length, replicate};
+ghost use lib.ListN.{length};
+ghost use Rattle.rules.specs.Tile.{mapSize, freshMap};
 
 // Every byte of the map is zero.
 pub(crate) fn clear(map: &mut [u8])
-    ensures { λ _. ⌜ now (map .exit) ≡ replicate (length (now (map .entry))) 0 ⌝ }
+    requires { ⌜ length (now map) ≡ mapSize ⌝ }
+    ensures { λ _. ⌜ now (map .exit) ≡ freshMap ⌝ }
 {
     let end = map.len();
     for i in 0..end {

@@ -5,7 +5,7 @@ ghost use Rattle.rules.specs.Base.{any, isMarked};
 ghost use Rattle.rules.specs.Calls.{hasLoadCall};
 ghost use Rattle.rules.specs.Reach.{reachPlain, hasLoad};
 ghost use Rattle.rdp.specs.View.{tileOf, yesAnswered};
-ghost use Rattle.rules.specs.Tile.{InRange};
+ghost use Rattle.rules.specs.Tile.{mapSize, InRange};
 ghost use Rattle.reach.specs.Span.{Bounds, reached};
 use crate::extent;
 use crate::refused;
@@ -17,11 +17,11 @@ use tile_sampling::sampling::TileSampling;
 
 // An address of a span is marked.
 fn span_meets(written: &[u8], span: Span) -> bool
-    requires { ⌜ length (now written) ≡ 512 ⌝ }
+    requires { ⌜ length (now written) ≡ mapSize ⌝ }
     requires { ⌜ Bounds span ⌝ }
     ensures { λ r. ⌜ r ≡ any (isMarked (now (written .entry))) (reached span) ⌝ }
 {
-    let words = (span.bytes + 7) / 8;
+    let words = span.words();
     for w in 0..words {
         if word::word_meets(written, span.twice, span.word(w), span.bits(w)) {
             return true;
@@ -32,7 +32,7 @@ fn span_meets(written: &[u8], span: Span) -> bool
 
 // One of a row, up to the period of rows.
 fn rows_meet(written: &[u8], tile: TileDescriptor, tlut: u32) -> bool
-    requires { ⌜ length (now written) ≡ 512 ⌝ }
+    requires { ⌜ length (now written) ≡ mapSize ⌝ }
     requires { ⌜ InRange (tileOf tile) ⌝ }
     ensures { λ r. ⌜ r ≡ any (isMarked (now (written .entry))) (reachPlain (tileOf tile) tlut) ⌝ }
 {
@@ -48,7 +48,7 @@ fn rows_meet(written: &[u8], tile: TileDescriptor, tlut: u32) -> bool
 
 // The reach and the map meet.
 fn reach_meets(written: &[u8], tile: TileDescriptor, tlut: u32) -> bool
-    requires { ⌜ length (now written) ≡ 512 ⌝ }
+    requires { ⌜ length (now written) ≡ mapSize ⌝ }
     requires { ⌜ InRange (tileOf tile) ⌝ }
     ensures { λ r. ⌜ r ≡ hasLoad (tileOf tile) tlut (now (written .entry)) ⌝ }
 {

@@ -6,7 +6,7 @@ ghost use Rattle.rules.specs.Base.{marks};
 ghost use Rattle.rules.specs.Calls.{reachCall};
 ghost use Rattle.rules.specs.Reach.{reachPlain, reachMap};
 ghost use Rattle.rdp.specs.View.{tileOf, refusalAnswered};
-ghost use Rattle.rules.specs.Tile.{InRange};
+ghost use Rattle.rules.specs.Tile.{mapSize, InRange};
 ghost use Rattle.reach.specs.Span.{Bounds, reached};
 use crate::extent;
 use crate::fresh;
@@ -18,11 +18,11 @@ use tile_sampling::sampling::TileSampling;
 
 // The addresses of a span are marked, word by word.
 fn mark_span(map: &mut [u8], span: Span)
-    requires { ⌜ length (now map) ≡ 512 ⌝ }
+    requires { ⌜ length (now map) ≡ mapSize ⌝ }
     requires { ⌜ Bounds span ⌝ }
     ensures { λ _. ⌜ now (map .exit) ≡ marks (now (map .entry)) (reached span) ⌝ }
 {
-    let words = (span.bytes + 7) / 8;
+    let words = span.words();
     for w in 0..words {
         word::mark_word(map, span.twice, span.word(w), span.bits(w));
     }
@@ -30,7 +30,7 @@ fn mark_span(map: &mut [u8], span: Span)
 
 // Those of every row, up to the period of rows.
 fn mark_rows(map: &mut [u8], tile: TileDescriptor, tlut: u32)
-    requires { ⌜ length (now map) ≡ 512 ⌝ }
+    requires { ⌜ length (now map) ≡ mapSize ⌝ }
     requires { ⌜ InRange (tileOf tile) ⌝ }
     ensures { λ _. ⌜ now (map .exit) ≡ marks (now (map .entry)) (reachPlain (tileOf tile) tlut) ⌝ }
 {
@@ -43,7 +43,7 @@ fn mark_rows(map: &mut [u8], tile: TileDescriptor, tlut: u32)
 
 // The map has the marks of the reach and no others.
 fn mark_reach(map: &mut [u8], tile: TileDescriptor, tlut: u32)
-    requires { ⌜ length (now map) ≡ 512 ⌝ }
+    requires { ⌜ length (now map) ≡ mapSize ⌝ }
     requires { ⌜ InRange (tileOf tile) ⌝ }
     ensures { λ _. ⌜ now (map .exit) ≡ reachMap (tileOf tile) tlut ⌝ }
 {

@@ -3,8 +3,9 @@ ghost use mathlib.Core.Bool.{true};
 ghost use mathlib.Core.Path.{_≡_};
 ghost use Prim.Native.Nat.{_<_};
 ghost use lib.ListN.{length};
-ghost use Rattle.rules.proofs.Bits.{joined};
-ghost use Rattle.reach.specs.Words.{meets, wordJoined, wordMeets};
+ghost use Rattle.rules.specs.Tile.{bankWords, mapSize};
+ghost use Rattle.reach.specs.Words.{joined, meets, lowWords, wordJoined, wordMeets};
+use tmem::bank::Bank;
 
 // The bits are set in byte `at`.
 fn join(map: &mut [u8], at: usize, bits: u8)
@@ -16,13 +17,13 @@ fn join(map: &mut [u8], at: usize, bits: u8)
 
 // And in the byte that it stands for in the upper half.
 pub(crate) fn mark_word(map: &mut [u8], twice: bool, at: usize, bits: u8)
-    requires { ⌜ length (now map) ≡ 512 ⌝ }
-    requires { ⌜ (at < 512) × (twice ≡ true → at < 256) ⌝ }
+    requires { ⌜ length (now map) ≡ mapSize ⌝ }
+    requires { ⌜ (at < bankWords) × (twice ≡ true → at < lowWords) ⌝ }
     ensures { λ _. ⌜ now (map .exit) ≡ wordJoined twice (now (map .entry)) at bits ⌝ }
 {
     join(map, at, bits);
     if twice {
-        join(map, at + 256, bits);
+        join(map, at + Bank::PALETTE_BASE / 8, bits);
     }
 }
 
@@ -36,12 +37,12 @@ fn meets(map: &[u8], at: usize, bits: u8) -> bool
 
 // Or in the byte that it stands for.
 pub(crate) fn word_meets(map: &[u8], twice: bool, at: usize, bits: u8) -> bool
-    requires { ⌜ length (now map) ≡ 512 ⌝ }
-    requires { ⌜ (at < 512) × (twice ≡ true → at < 256) ⌝ }
+    requires { ⌜ length (now map) ≡ mapSize ⌝ }
+    requires { ⌜ (at < bankWords) × (twice ≡ true → at < lowWords) ⌝ }
     ensures { λ r. ⌜ r ≡ wordMeets twice (now (map .entry)) at bits ⌝ }
 {
     if twice {
-        return meets(map, at, bits) | meets(map, at + 256, bits);
+        return meets(map, at, bits) | meets(map, at + Bank::PALETTE_BASE / 8, bits);
     }
     meets(map, at, bits)
 }

@@ -15,7 +15,6 @@ use Rattle.rules.proofs.Refused.{Passed, Numbered, numbered, passed, fi
 
 pub record Allowed (t : Tile) (mode lane : ℕ) : Type 0 where
   pub inside : InRange t
-  pub mode-le : mode ≤ 3
   pub lane-le : lane ≤ 3
   pub pair : accepted mode (t .fmt) (t .siz) ≡ true
 
@@ -25,7 +24,6 @@ allowed t mode lane h =
     let p = passed (pairTests t mode lane []) (numbered (pairTests t mode lane []) refl) h in
     record {
       inside = in-range t (p .0);
-      mode-le = ltb-false 3 mode (p .1 .0);
       lane-le = ltb-false 3 lane (p .1 .1 .0);
       pair = not-false _ (p .1 .1 .1 .0);
     }

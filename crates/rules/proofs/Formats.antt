@@ -2,16 +2,16 @@
 use mathlib.Core.Path.{_≡_, refl, ap, sym, _∙_}
 use mathlib.Core.Bool.{Bool, true, false, cond, _&&_, _||_, true≢false}
 use mathlib.Core.List.{List, [], _∷_}
-use Prim.Native.Nat.{ℕ, _+_, _*_, _<_}
+use Prim.Native.Nat.{ℕ, _+_, _*_, _<_, _≤_}
 use lib.Dec.{eqb, ltb, leb}
 use lib.ListN.{length}
-use borrow.Author.Tests.{eqb-true, lt-leb}
+use borrow.Author.Tests.{eqb-true, le-leb, lt-leb}
 use Rattle.rules.specs.Base.{any}
 use Rattle.rules.specs.Tile.{Tile}
 use Rattle.rules.specs.Texdec.{Format, rgba16, rgba32, ci4, ci8, ci16, ia4, ia8, ia16, i4, i8, unknown, known, formatOf, tlut, Pair, directPairs, acceptedDirect, accepted, stepKnows}
 use Rattle.rules.specs.Reading.{Reading, given, trail}
 use Rattle.rules.specs.Sampling.{isRgba32}
-use Rattle.rules.specs.Picture.{address, direct, texel, formatReads}
+use Rattle.rules.specs.Picture.{address, direct, paletted, texel, formatReads}
 
 both-true : (a b : Bool) → (a && b) ≡ true → (a ≡ true) × (b ≡ true)
 both-true true b h = (refl, h)
@@ -60,7 +60,11 @@ accepted-known mode fmt siz a = go (tlut mode) a
     go true a = refl
     go false a = direct-known fmt siz a
 
--- in modes 0 and 1 a texel is its format's
+-- in modes 2 and 3 a texel goes through the lookup table, in modes 0 and 1 it is its format's
+pub texel-tlut : (t : Tile) (mode lane : ℕ) (swap : Bool) (rel x : ℕ) → 2 ≤ mode → texel t mode lane swap rel x ≡ paletted t mode lane swap rel x
+unfolding texel
+texel-tlut t mode lane swap rel x h = rw (texel, le-leb 2 mode h)
+
 pub texel-direct : (t : Tile) (mode lane : ℕ) (swap : Bool) (rel x : ℕ) → mode < 2
     → texel t mode lane swap rel x ≡ direct (formatOf (t .fmt) (t .siz)) (8 * t .tmem-addr) (t .palette) swap rel x
 unfolding texel

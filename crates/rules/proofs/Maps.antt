@@ -5,12 +5,14 @@ use mathlib.Core.List.{List, [], _∷_, _++_}
 use Prim.Native.Nat.{ℕ, zero, suc, _+_, _-_, _*_, _/_, _%_, _^_, _<_, _≤_, max}
 use native.Mathlib.Omega.{arith}
 use native.Mathlib.Decide.{ℕ-discrete}
+use native.Mathlib.Nat.{zero-div}
 use lib.Bits.{bitOr, or-shr, or-step}
 use lib.Dec.{eqb}
-use lib.ListN.{length, getD, set, length-set}
+use lib.ListN.{length, getD, set, replicate, length-set}
 use lib.Seq.{getD-set-same, getD-set-other}
 use borrow.Author.Tests.{eq-eqb, ne-eqb}
 use Rattle.rules.specs.Base.{one, odd, mem, isMarked, marked, marks}
+use Rattle.rules.specs.Tile.{mapSize, freshMap}
 use Rattle.rules.proofs.Computed.{all, computed, agree-below}
 
 -- every address of the list is below n
@@ -89,3 +91,13 @@ isMarked-marks (a ∷ l) m b h =
     isMarked-marks l (marked m a) b (rw length-marked (h .1))
     ∙ ap (λ t. mem b l || t) (isMarked-marked m a b (omega (arith, h .0)))
     ∙ swap-or (mem b l) (eqb b a) (isMarked m b)
+
+-- "A fresh bank is all zero with no byte marked written."
+pub fresh-unmarked : (a : ℕ) → isMarked freshMap a ≡ false
+unfolding isMarked
+fresh-unmarked a = rw (zeros mapSize (a / 8), zero-div)
+  where
+    zeros : (n k : ℕ) → getD (replicate n zero) k zero ≡ zero
+    zeros zero k = refl
+    zeros (suc n) zero = refl
+    zeros (suc n) (suc k) = zeros n k

@@ -125,7 +125,7 @@ fn has_load_case(r: &[u8]) -> bool {
 fn lane_case(r: &[u8]) -> bool {
     let bank = bank_of(r);
     let mut map = [165u8; 32];
-    let refusal = lane_check::lane::palette_nonreplicated_bytes(&bank, &mut map);
+    let refusal = reach::lane::palette_nonreplicated_bytes(&bank, &mut map);
     record::answered(r, refusal, 0) & first_is(r, &map)
 }
 

@@ -11,10 +11,10 @@ use Rattle.rules.specs.Base.{tab, tabFrom, concat, marked, marks}
 use Rattle.rules.specs.Load.{Store, stored, written}
 use Rattle.rules.proofs.Tables.{concat-more}
 use Rattle.rules.proofs.Loads.{stored-append, written-append, length-stored, length-written}
-use Rattle.tmem.specs.Part.{Lent, CarriedOut}
+use Rattle.tmem.specs.Part.{Lent, CarriedOut, Counted}
 
 module _ {src : List ℕ} {bank map : List ℕ} where
-  pub none : CarriedOut src [] bank map bank map
+  none : CarriedOut src [] bank map bank map
   unfolding stored written marks
   none = record { bank-is = refl; map-is = refl }
 
@@ -29,7 +29,7 @@ module _ {src : List ℕ} {bank map : List ℕ} where
       }
 
   -- the lists of a table, and one more
-  pub one-more : (f : ℕ → List Store) (n : ℕ) {bank′ map′ bank″ map″ : List ℕ}
+  one-more : (f : ℕ → List Store) (n : ℕ) {bank′ map′ bank″ map″ : List ℕ}
       → CarriedOut src (concat (tab n f)) bank map bank′ map′
       → CarriedOut src (f n) bank′ map′ bank″ map″
       → CarriedOut src (concat (tab (n + 1) f)) bank map bank″ map″
@@ -57,7 +57,8 @@ exchanged {src} {bank} {map} s t u v h p =
     record {
       bank-is =
           p .bank-is
-          ∙ ap (λ b. set b (v .at) (byte v)) (set-comm (set bank (s .at) (byte s)) (t .at) (u .at) (byte t) (byte u) (λ e. h (ap (λ k. k / 8) e)));
+          ∙ ap (λ b. set b (v .at) (byte v))
+          (set-comm (set bank (s .at) (byte s)) (t .at) (u .at) (byte t) (byte u) (λ e. h (ap (λ k. k / 8) e)));
       map-is = p .map-is ∙ ap (λ m. marked m (v .at)) (marks-swap (marked map (s .at)) (t .at) (u .at) h);
     }
   where
@@ -89,7 +90,7 @@ module _ {n : ℕ} {f : ℕ → List Store} {src bank map : List ℕ} where
   finish {i} t h = let e : i ≡ n = omega arith in rw e at (t .so-far)
 
 -- The same loop where it counts its stores.
-pub record Counted (n : ℕ) (f : ℕ → List Store) (src bank map : List ℕ) (i : ℕ) (bank′ map′ : List ℕ) (count : ℕ) : Type 0 where
+pub record Counting (n : ℕ) (f : ℕ → List Store) (src bank map : List ℕ) (i : ℕ) (bank′ map′ : List ℕ) (count : ℕ) : Type 0 where
   pub turn : Turn n f src bank map i bank′ map′
   pub counted : count ≡ length (concat (tab i f))
 
@@ -104,37 +105,39 @@ table-length f g e (suc n) =
     ∙ rw (table-length f g e n, e n) (sym (suc-mul n g))
 
 module _ {n : ℕ} {f : ℕ → List Store} {src bank map : List ℕ} where
-  pub begin-count : Lent bank map → Counted n f src bank map 0 bank map 0
+  pub begin-count : Lent bank map → Counting n f src bank map 0 bank map 0
   unfolding tab tabFrom concat
   begin-count w = record { turn = begin w; counted = refl }
 
   pub next-count : {i count r : ℕ} {bank′ map′ bank″ map″ : List ℕ}
-      → Counted n f src bank map i bank′ map′ count
+      → Counting n f src bank map i bank′ map′ count
       → i < n
-      → CarriedOut src (f i) bank′ map′ bank″ map″
-      → r ≡ length (f i)
-      → Counted n f src bank map (i + 1) bank″ map″ (count + r)
-  next-count {i} t h q e =
+      → Counted src (f i) bank′ map′ bank″ map″ r
+      → Counting n f src bank map (i + 1) bank″ map″ (count + r)
+  next-count {i} t h q =
       record {
-        turn = next (t .turn) h q;
-        counted = rw (concat-more i f, length-append, t .counted, e);
+        turn = next (t .turn) h (q .carried);
+        counted = rw (concat-more i f, length-append, t .counted, q .count-is);
       }
 
   pub finish-count : {i count : ℕ} {bank′ map′ : List ℕ}
-      → Counted n f src bank map i bank′ map′ count
+      → Counting n f src bank map i bank′ map′ count
       → n ≤ i
-      → CarriedOut src (concat (tab n f)) bank map bank′ map′ × (count ≡ length (concat (tab n f)))
-  finish-count {i} {count} t h = let e : i ≡ n = omega (arith, t .turn .turns) in (finish (t .turn) h, rw e at (t .counted))
+      → Counted src (concat (tab n f)) bank map bank′ map′ count
+  finish-count {i} {count} t h =
+      let e : i ≡ n = omega (arith, t .turn .turns) in
+      record { carried = finish (t .turn) h; count-is = rw e at (t .counted) }
 
-  -- what is counted stays below the number of lists times a bound of their lengths
-  pub count-within : (g m b : ℕ) {i count : ℕ} {bank′ map′ : List ℕ}
+  -- with the next list's g stores, what is counted stays below a bound of the lists times one of their lengths
+  pub count-within : (g m b : ℕ) {i count r : ℕ} {bank′ map′ : List ℕ}
       → ((i : ℕ) → length (f i) ≡ g)
       → n ≤ m
       → g ≤ b
-      → Counted n f src bank map i bank′ map′ count
+      → Counting n f src bank map i bank′ map′ count
       → i < n
-      → count + g ≤ m * b
-  count-within g m b {i} {count} e hm hb t h =
+      → r ≡ g
+      → count + r ≤ m * b
+  count-within g m b {i} {count} e hm hb t h k =
       let all : count ≡ i * g = t .counted ∙ table-length f g e i in
       let p : (i + 1) * g ≤ m * b = mul-le-mul (omega arith) hb in
       omega (arith, add-mul i 1 g, one-mul g)

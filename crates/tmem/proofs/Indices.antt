@@ -1,5 +1,5 @@
 -- The list of four by its places, and bounds of the numbers that make it.
-use mathlib.Core.Path.{_≡_, refl, sym, _∙_}
+use mathlib.Core.Path.{_≡_, refl, ap, sym, _∙_}
 use mathlib.Core.Bool.{Bool, true, false}
 use mathlib.Core.List.{List, [], _∷_}
 use Prim.Native.Nat.{ℕ, zero, suc, _+_, _*_, _/_, _%_, _<_, _≤_}
@@ -43,7 +43,7 @@ xored n o h e = go (ℕ-discrete o 0)
 spot-xored : (f o i : ℕ) → Spots f o → Xored ((f + i) % 2048) o (spot f o i)
 spot-xored f o i s = xored ((f + i) % 2048) o (s .odd-in) (s .odd-even)
 
--- what place k of the list holds
+-- the halfword at place k of the list: the rule's n that is k mod 4
 abbrev pub late : ℕ → ℕ → ℕ → ℕ
 late f o k = boolByte (eqb k o) * (f % 4)
 
@@ -54,15 +54,15 @@ late-within f o k = go (eqb k o)
     go true = omega arith
     go false = omega arith
 
-abbrev pub held : ℕ → ℕ → ℕ → ℕ
-held f o k = (f / 4 * 4 + k + 4 * late f o k) % 1024 * 2
+abbrev placed : ℕ → ℕ → ℕ → ℕ
+placed f o k = (f / 4 * 4 + k + 4 * late f o k) % 2048
 
--- halfword m, which is the first of its word, or any
-held-first : (m o x : ℕ) → m % 4 ≡ 0 → x / 4 ≡ m % 2048 / 4 → x % 4 ≡ o → x % 1024 ≡ (m + o) % 1024
-held-first m o x z w p = omega arith
+-- the halfword of m's word whose place is o, and m in its word, by word and place
+first-of-word : (m o x : ℕ) → m % 4 ≡ 0 → x / 4 ≡ m % 2048 / 4 → x % 4 ≡ o → x ≡ (m + o) % 2048
+first-of-word m o x z w p = omega arith
 
-held-any : (m x : ℕ) → x / 4 ≡ m % 2048 / 4 → x % 1024 ≡ (m / 4 * 4 + x % 4) % 1024
-held-any m x w = omega arith
+any-of-word : (m x : ℕ) → x / 4 ≡ m % 2048 / 4 → x ≡ (m / 4 * 4 + x % 4) % 2048
+any-of-word m x w = omega arith
 
 starts-late : (f i : ℕ) → f % 4 < 2 → i < 4 → (f + i) % 4 ≡ 0 → f + i ≡ f / 4 * 4 + 4 * (f % 4)
 starts-late f i h k z = omega arith
@@ -70,16 +70,20 @@ starts-late f i h k z = omega arith
 stays : (f i : ℕ) → f % 4 < 2 → i < 4 → ((f + i) % 4 ≡ 0 → ⊥) → (f + i) / 4 ≡ f / 4
 stays f i h k z = omega arith
 
-spot-held : (f o i : ℕ) → Spots f o → i < 4 → 2 * (spot f o i % 1024) ≡ held f o (spot f o i % 4)
-spot-held f o i s h = go (spot f o i) (spot-xored f o i s) (ℕ-discrete (spot f o i % 4) o)
+spot-placed : (f o i : ℕ) → Spots f o → i < 4 → spot f o i ≡ placed f o (spot f o i % 4)
+spot-placed f o i s h = go (spot f o i) (spot-xored f o i s) (ℕ-discrete (spot f o i % 4) o)
   where
-    go : (x : ℕ) → Xored ((f + i) % 2048) o x → Dec (x % 4 ≡ o) → 2 * (x % 1024) ≡ held f o (x % 4)
+    go : (x : ℕ) → Xored ((f + i) % 2048) o x → Dec (x % 4 ≡ o) → x ≡ placed f o (x % 4)
     go x r (yes e) =
         let z : (f + i) % 4 ≡ 0 = omega (arith, s .odd-in, r .place-is) in
-        rw (eq-eqb (x % 4) o e) (omega (arith, held-first (f + i) o x z (r .word-is) e, starts-late f i (s .first-low) h z, e))
+        rw (eq-eqb (x % 4) o e) (omega (arith, first-of-word (f + i) o x z (r .word-is) e, starts-late f i (s .first-low) h z, e))
     go x r (no e) =
         let z : (f + i) % 4 ≡ 0 → ⊥ = λ z. e (omega (arith, s .odd-in, r .place-is)) in
-        rw (ne-eqb (x % 4) o e) (omega (arith, held-any (f + i) x (r .word-is), stays f i (s .first-low) h z))
+        rw (ne-eqb (x % 4) o e) (omega (arith, any-of-word (f + i) x (r .word-is), stays f i (s .first-low) h z))
+
+-- what the list holds there
+abbrev held : ℕ → ℕ → ℕ → ℕ
+held f o k = 2 * (placed f o k % 1024)
 
 -- a place that is not set later holds what it was set to
 set-held : (f o : ℕ) (l : List ℕ) (i k : ℕ) → Spots f o → i < 4 → length l ≡ 4
@@ -88,7 +92,9 @@ set-held : (f o : ℕ) (l : List ℕ) (i k : ℕ) → Spots f o → i < 4 → le
 set-held f o l i k s h n before = go (ℕ-discrete k (spot f o i % 4))
   where
     go : Dec (k ≡ spot f o i % 4) → getD (set l (spot f o i % 4) (2 * (spot f o i % 1024))) k 0 ≡ held f o k
-    go (yes e) = rw (e, getD-set-same l (spot f o i % 4) (2 * (spot f o i % 1024)) 0 (omega (arith, n))) (spot-held f o i s h)
+    go (yes e) =
+        rw (e, getD-set-same l (spot f o i % 4) (2 * (spot f o i % 1024)) 0 (omega (arith, n)))
+        (ap (λ x. 2 * (x % 1024)) (spot-placed f o i s h))
     go (no e) = rw (getD-set-other l (spot f o i % 4) k (2 * (spot f o i % 1024)) 0 e) (before e)
 
 -- the four halfwords take the four places
@@ -140,7 +146,9 @@ place-held f o k s h =
 
 -- the list place at which a split word starts leaves room for the next
 pub start-below : (h o : ℕ) → o < 2 → bitXor (bitAnd h 2) (o * 2) ≤ 2
-start-below h o q = rw (and-high h 1 1) (leb→le _ 2 (computed 2 (fits (h / 2 % 2)) (computed 2 (λ b. all 2 (fits b)) tt (h / 2 % 2) (omega arith)) o q))
+start-below h o q =
+    rw (and-high h 1 1)
+    (leb→le _ 2 (computed 2 (fits (h / 2 % 2)) (computed 2 (λ b. all 2 (fits b)) tt (h / 2 % 2) (omega arith)) o q))
   where
     fits : ℕ → ℕ → Bool
     fits b o = leb (bitXor (b * 2) (o * 2)) 2

@@ -1,5 +1,5 @@
 -- The stores of a word, a place at a time, and their number.
-use mathlib.Core.Path.{_≡_, refl}
+use mathlib.Core.Path.{_≡_, refl, ap, sym, _∙_}
 use mathlib.Core.Bool.{Bool, true, false, cond}
 use mathlib.Core.List.{List, [], _∷_, _++_}
 use Prim.Native.Nat.{ℕ, _+_, _-_, _*_, _%_, _≤_}
@@ -9,7 +9,8 @@ use lib.Bits.{bitAnd, bitXor, and-le-r, and-mod}
 use lib.Dec.{eqb}
 use lib.ListN.{length, getD}
 use Rattle.rules.specs.Base.{tab, tabFrom, concat}
-use Rattle.rules.specs.Load.{Store, store, LoadTile, halfword, base, firstSpot, oddSpot, list4, splits, upper, splitAt, splitStores, wholeStores, wordStores}
+use Rattle.rules.specs.Load.{Store, store, LoadTile, halfword, base, firstSpot, oddSpot, list4, splits, upper}
+use Rattle.rules.specs.Load.{splitAt, splitStores, wholeStores, wordStores}
 use Rattle.tmem.specs.Part.{Spots, halfStores, CarriedOut}
 use Rattle.tmem.proofs.Carry.{exchanged}
 use Rattle.tmem.proofs.Indices.{start-below}
@@ -59,6 +60,15 @@ wholeTurn l high o from k =
     ∷ store (getD l k 0 + high + 1) (from (2 * bitXor k o + 1))
     ∷ []
 
+-- the row's word may be wrapped at the bank's end: the bits that are left are those of 512 words
+pub first-wraps : (b h : ℕ) → firstSpot (b % 512) h ≡ firstSpot b h
+first-wraps b h =
+    let same : (4 * (b % 512) + h) % 2048 ≡ (4 * b + h) % 2048 = omega arith in
+    kept (4 * (b % 512) + h) ∙ ap (λ x. bitAnd x 0x7fd) same ∙ sym (kept (4 * b + h))
+  where
+    kept : (x : ℕ) → bitAnd x 0x7fd ≡ bitAnd (x % 2048) 0x7fd
+    kept x = omega (arith, and-mod x 0x7fd 11, and-le-r x 0x7fd)
+
 -- the numbers of a word load, found
 pub record Found (t : LoadTile) (s row h f o : ℕ) : Type 0 where
   pub half-is : h ≡ halfword t s
@@ -102,6 +112,7 @@ word-length t s row from = go (splits t)
     o : ℕ
     o = oddSpot row
 
-    go : (b : Bool) → length (cond b (splitStores t (list4 f o) (bitXor (bitAnd h 2) o) from) (wholeStores (list4 f o) (upper f) o from)) ≡ 8
+    go : (b : Bool)
+        → length (cond b (splitStores t (list4 f o) (bitXor (bitAnd h 2) o) from) (wholeStores (list4 f o) (upper f) o from)) ≡ 8
     go true = refl
     go false = refl

@@ -1,8 +1,8 @@
 -- Rows of entries: their lengths, and the stores of an entry.
-use mathlib.Core.Path.{_≡_, sym, _∙_}
-use mathlib.Core.List.{List, [], _∷_}
-use Prim.Native.Nat.{ℕ, _+_, _*_, _%_, _≤_}
-use native.Mathlib.Nat.{add-zero, add-assoc, mul-assoc, mul-left-comm}
+use mathlib.Core.Path.{_≡_, ap, sym, _∙_}
+use mathlib.Core.List.{List}
+use Prim.Native.Nat.{ℕ, _+_, _*_, _/_, _%_}
+use native.Mathlib.Nat.{add-zero, add-assoc, mul-assoc, mul-add-mod-self-left}
 use native.Mathlib.Omega.{arith}
 use lib.ListN.{length}
 use Rattle.rules.specs.Base.{tab, tabFrom, concat}
@@ -20,15 +20,12 @@ pub entry-row-length : (t : LoadTile) (count stride row : ℕ) → length (entry
 unfolding entryRow
 entry-row-length t count stride row = table-length _ 8 (entry-length t stride row) count
 
--- four lines of bytes a row, and an entry's eight bytes
-pub lines-down : (r l : ℕ) → r * (32 * l) ≡ 32 * r * l
-lines-down r l = mul-left-comm r 32 l ∙ sym (mul-assoc 32 r l)
-
-pub entry-within : (a r l i : ℕ) → (8 * a + 32 * r * l + 8 * i) % 4096 + 8 ≤ 4096
-entry-within a r l i = omega (arith, mul-assoc 32 r l)
-
-pub entry-even : (a r l i : ℕ) → (8 * a + 32 * r * l + 8 * i) % 4096 % 2 ≡ 0
-entry-even a r l i = omega (arith, mul-assoc 32 r l)
+-- an entry is one word, and rows are four lines apart
+pub entry-word : (a r l i : ℕ) → 8 * ((a + 4 * r * l) % 512 + i) % 4096 ≡ (8 * a + 32 * r * l + 8 * i) % 4096
+entry-word a r l i =
+    let row : ℕ = a + 4 * r * l in
+    let whole : 8 * a + 32 * r * l + 8 * i ≡ 4096 * (row / 512) + 8 * (row % 512 + i) = omega (arith, mul-assoc 4 r l, mul-assoc 32 r l) in
+    sym (ap (λ n. n % 4096) whole ∙ mul-add-mod-self-left 4096 (row / 512) (8 * (row % 512 + i)))
 
 pub entry-at : (t : LoadTile) (stride r i at : ℕ) → at ≡ (8 * t .tmem-addr + 32 * r * t .line + 8 * i) % 4096
     → tab 8 (λ k. store (at + k) (r * stride + 2 * i + k % 2)) ≡ entryStores t stride r i

@@ -2,3 +2,4 @@
 pub mod Marks
 pub mod Part
 pub mod Run
+pub mod Asked

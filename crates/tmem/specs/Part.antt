@@ -13,11 +13,6 @@ use Rattle.tmem.specs.declared.place.LoadTile.{LoadTile as Declared}
 abbrev pub loadOf : Declared → LoadTile
 loadOf t = record { fmt = t .fmt; siz = t .siz; line = t .line .0; tmem-addr = t .«tmem_addr» .0 }
 
--- the two numbers of a load's fields that are added up are inside their ranges
-pub record Ranged (t : LoadTile) : Type 0 where
-  pub line-in : t .line < 512
-  pub word-in : t .tmem-addr < 512
-
 -- bank and written map have their lengths
 pub record Lent (bank map : List ℕ) : Type 0 where
   pub whole-bank : length bank ≡ bankSize
@@ -42,3 +37,8 @@ pub record Spots (first odd : ℕ) : Type 0 where
 pub record CarriedOut (src : List ℕ) (l : List Store) (bank map bank′ map′ : List ℕ) : Type 0 where
   pub bank-is : bank′ ≡ stored src l bank
   pub map-is : map′ ≡ written l map
+
+-- and their number is answered
+pub record Counted (src : List ℕ) (l : List Store) (bank map bank′ map′ : List ℕ) (count : ℕ) : Type 0 where
+  pub carried : CarriedOut src l bank map bank′ map′
+  pub count-is : count ≡ length l

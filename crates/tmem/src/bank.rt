@@ -1,7 +1,6 @@
 // The bank by value, with its numbers as associated constants, and its fresh value.
 ghost use mathlib.Core.Path.{_≡_};
-ghost use lib.ListN.{replicate};
-ghost use Rattle.rules.specs.Tile.{bankSize, paletteBase, mask8, mask16};
+ghost use Rattle.rules.specs.Tile.{bankSize, paletteBase, mask8, mask16, freshBank};
 
 // Texture memory.
 pub struct Bank {
@@ -21,17 +20,21 @@ impl Bank {
     // The mask of a byte address of the lower half.
     pub const MASK16: usize = 0x7ff;
 
-    // The constants are the rules' numbers.
-    pub fn numbers()
+    // The sizes are the rules' numbers.
+    pub(crate) fn numbers()
         ensures { λ _. do ⌜ (← ⟦Bank::SIZE⟧ .entry) ≡ bankSize ⌝ }
         ensures { λ _. do ⌜ (← ⟦Bank::PALETTE_BASE⟧ .entry) ≡ paletteBase ⌝ }
+    {}
+
+    // So are the masks.
+    pub(crate) fn masks()
         ensures { λ _. do ⌜ (← ⟦Bank::MASK8⟧ .entry) ≡ mask8 ⌝ }
         ensures { λ _. do ⌜ (← ⟦Bank::MASK16⟧ .entry) ≡ mask16 ⌝ }
     {}
 
     // All zero.
     pub fn fresh() -> Bank
-        ensures { λ r. ⌜ r .bytes ≡ replicate bankSize 0 ⌝ }
+        ensures { λ r. ⌜ r .bytes ≡ freshBank ⌝ }
     {
         Bank {
             bytes: [0u8; Bank::SIZE],

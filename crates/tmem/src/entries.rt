@@ -1,36 +1,31 @@
 // Rows of a lookup table's entries, each pair of bytes four times over.
 ghost use mathlib.Core.Path.{_≡_};
 ghost use Prim.Native.Nat.{_+_, _*_, _%_, _<_, _≤_};
-ghost use lib.ListN.{length};
 ghost use Rattle.rules.specs.Base.{tab};
 ghost use Rattle.rules.specs.Tile.{bankSize};
 ghost use Rattle.rules.specs.Load.{store, entryRow, rowStores};
-ghost use Rattle.tmem.specs.Part.{loadOf, Ranged, Lent, CarriedOut};
+ghost use Rattle.tmem.specs.Part.{loadOf, Lent, Counted};
 use crate::bank::Bank;
 use crate::place::LoadTile;
 use crate::store::store_halfword;
 use rdp::units::ByteAddr;
-use rdp::units::LineWords;
+use rdp::units::WordAddr;
 
-// The bytes from row to row: four lines.
-fn four_lines(line: LineWords) -> usize
-    ensures { λ r. ⌜ r ≡ 32 * line .0 ⌝ }
-{
-    4 * line.bytes().0
-}
+// The lines from row to row.
+const LINES_A_ROW: u32 = 4;
 
-// The byte at which entry i of a row starts.
+// The byte at which entry i of a row starts. An entry is one word, whose eight bytes lie together.
 fn entry_addr(tile: LoadTile, row: usize, i: usize) -> ByteAddr
-    requires { ⌜ Ranged (loadOf tile) ⌝ }
     requires { ⌜ row < 1024 ⌝ }
     requires { ⌜ i < 1024 ⌝ }
     ensures { λ r. ⌜ r .0 ≡ (8 * tile .«tmem_addr» .0 + 32 * row * tile .line .0 + 8 * i) % bankSize ⌝ }
+    ensures { λ r. ⌜ (r .0 + 8 ≤ bankSize) × (r .0 % 2 ≡ 0) ⌝ }
 {
     let word = tile.tmem_addr;
     let line = tile.line;
-    let base = word.bytes().0;
-    let at = base + row * four_lines(line) + 8 * i;
-    ByteAddr(at & Bank::MASK8)
+    let first = word.row(line, LINES_A_ROW * row as u32);
+    let entry = WordAddr(first.0 + i as u32);
+    ByteAddr(entry.bytes().0 & Bank::MASK8)
 }
 
 // An entry's pair of bytes, four times over; it answers its count of stores.
@@ -44,8 +39,8 @@ fn write_tlut_entry(
     requires { ⌜ Lent (now bank) (now written) ⌝ }
     requires { ⌜ (at .0 + 8 ≤ bankSize) × (at .0 % 2 ≡ 0) ⌝ }
     requires { ⌜ source < 1024 * 65536 ⌝ }
-    ensures { λ _. ⌜ CarriedOut (now (src .entry)) (tab 8 (λ k. store (at .0 + k) (source + k % 2))) (now (bank .entry)) (now (written .entry)) (now (bank .exit)) (now (written .exit)) ⌝ }
-    ensures { λ r. ⌜ r ≡ 8 ⌝ }
+    ensures { λ r. ⌜ Counted (now (src .entry)) (tab 8 (λ k. store (at .0 + k) (source + k % 2)))
+        (now (bank .entry)) (now (written .entry)) (now (bank .exit)) (now (written .exit)) r ⌝ }
 {
     for k in 0..4 {
         let to = at.0 + 2 * k;
@@ -65,12 +60,11 @@ fn write_tlut_row(
     row: usize,
 ) -> u32
     requires { ⌜ Lent (now bank) (now written) ⌝ }
-    requires { ⌜ Ranged (loadOf tile) ⌝ }
     requires { ⌜ count ≤ 1024 ⌝ }
     requires { ⌜ stride ≤ 65535 ⌝ }
     requires { ⌜ row < 1024 ⌝ }
-    ensures { λ _. ⌜ CarriedOut (now (src .entry)) (entryRow (loadOf tile) count stride row) (now (bank .entry)) (now (written .entry)) (now (bank .exit)) (now (written .exit)) ⌝ }
-    ensures { λ r. ⌜ r ≡ length (entryRow (loadOf tile) count stride row) ⌝ }
+    ensures { λ r. ⌜ Counted (now (src .entry)) (entryRow (loadOf tile) count stride row)
+        (now (bank .entry)) (now (written .entry)) (now (bank .exit)) (now (written .exit)) r ⌝ }
 {
     let mut stores = 0u32;
     for i in 0..count {
@@ -92,12 +86,11 @@ pub(crate) fn write_tlut_rows(
     stride: usize,
 ) -> u32
     requires { ⌜ Lent (now bank) (now written) ⌝ }
-    requires { ⌜ Ranged (loadOf tile) ⌝ }
     requires { ⌜ count ≤ 1024 ⌝ }
     requires { ⌜ rows ≤ 1024 ⌝ }
     requires { ⌜ stride ≤ 65535 ⌝ }
-    ensures { λ _. ⌜ CarriedOut (now (src .entry)) (rowStores (loadOf tile) count rows stride) (now (bank .entry)) (now (written .entry)) (now (bank .exit)) (now (written .exit)) ⌝ }
-    ensures { λ r. ⌜ r ≡ length (rowStores (loadOf tile) count rows stride) ⌝ }
+    ensures { λ r. ⌜ Counted (now (src .entry)) (rowStores (loadOf tile) count rows stride)
+        (now (bank .entry)) (now (written .entry)) (now (bank .exit)) (now (written .exit)) r ⌝ }
 {
     let mut stores = 0u32;
     for row in 0..rows {

@@ -1,6 +1,8 @@
 // Texture memory, as tmem.rs has it: the bank, the written marks, a load's stores, and the loads.
+mod asked;
 pub mod bank;
 mod entries;
+mod halfword;
 pub mod load;
 mod load_block;
 mod load_tile;

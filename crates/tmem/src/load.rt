@@ -1,45 +1,68 @@
 // The loads: a block, a tile or a lookup table into the bank. Each refuses, or stores and marks.
 ghost use mathlib.Core.Path.{_≡_};
-ghost use mathlib.Core.List.{List, [], _∷_};
-ghost use Prim.Native.Nat.{ℕ};
-ghost use lib.ListN.{length};
+ghost use mathlib.Core.List.{[], _∷_};
 ghost use Rattle.rules.specs.Refusal.{first};
 ghost use Rattle.rules.specs.Calls.{loadTests, blockCall, tileCall, tlutCall};
 ghost use Rattle.rdp.specs.View.{tileOf, answered};
+ghost use Rattle.tmem.specs.Asked.{askedOutside, askedCall};
+use crate::asked::Asked;
 use crate::bank::Bank;
-use crate::load_block::write_block_words;
-use crate::load_tile::write_tile_rows;
-use crate::load_tlut::write_tlut;
 use crate::place::load_fields;
 use rdp::answer::Answer;
 use rdp::refusal;
 use rdp::tile::TileDescriptor;
 
-// The first refusal of a load, by the lengths of what it is lent, its tile, and whether its own numbers are `outside` their ranges;
-// 0 is none.
+// The bytes that a source has at most.
+const SOURCE_LIMIT: usize = 65536;
+
+// The first refusal of a load; 0 is none.
 fn load_refusal(
-    bank_len: usize,
-    map_len: usize,
-    src_len: usize,
+    bank: &[u8],
+    written: &[u8],
+    src: &[u8],
     tile: TileDescriptor,
     image_siz: u32,
-    outside: bool,
+    asked: Asked,
 ) -> u32
-    ensures { λ r. ⌜ ((bank map src : List ℕ) → length bank ≡ «bank_len» → length map ≡ «map_len» → length src ≡ «src_len» → r ≡ first (loadTests bank map src (tileOf tile) «image_siz» outside)) ⌝ }
+    ensures { λ r. ⌜ r ≡ first (loadTests (now (bank .entry)) (now (written .entry)) (now (src .entry)) (tileOf tile) «image_siz»
+        (askedOutside asked)) ⌝ }
 {
-    if bank_len != Bank::SIZE {
+    if bank.len() != Bank::SIZE {
         return refusal::LENGTH;
     }
-    if map_len != Bank::SIZE / 8 {
+    if written.len() != Bank::SIZE / 8 {
         return refusal::LENGTH;
     }
     if tile.load_fields_outside() {
         return refusal::TILE;
     }
-    if (65536 < src_len) | (3 < image_siz) {
+    if (SOURCE_LIMIT < src.len()) | (3 < image_siz) {
         return refusal::LOAD;
     }
-    if outside { refusal::LOAD } else { 0 }
+    if asked.outside() { refusal::LOAD } else { 0 }
+}
+
+// Every load: it refuses, or carries out what is asked, and answers.
+fn load(
+    bank: &mut [u8],
+    written: &mut [u8],
+    src: &[u8],
+    tile: TileDescriptor,
+    image_siz: u32,
+    asked: Asked,
+) -> Answer
+    ensures { λ r. ⌜ answered r (now (bank .exit) ∷ now (written .exit) ∷ [])
+        ≡ askedCall (now (bank .entry)) (now (written .entry)) (now (src .entry)) (tileOf tile) «image_siz» asked ⌝ }
+{
+    let no = load_refusal(bank, written, src, tile, image_siz, asked);
+    if no != 0 {
+        return Answer {
+            refusal: no,
+            count: 0,
+        };
+    }
+    let count = asked.write(bank, written, src, load_fields(tile), image_siz);
+    Answer { refusal: 0, count }
 }
 
 // A block of words, whose row advances by dxt 2,048ths a word.
@@ -52,33 +75,14 @@ pub fn write_block_for_tile(
     dxt: u32,
     word_count: u32,
 ) -> Answer
-    ensures { λ r. ⌜ answered r (now (bank .exit) ∷ now (written .exit) ∷ []) ≡ blockCall (now (bank .entry)) (now (written .entry)) (now (src .entry)) (tileOf tile) «image_siz» dxt «word_count» ⌝ }
+    ensures { λ r. ⌜ answered r (now (bank .exit) ∷ now (written .exit) ∷ [])
+        ≡ blockCall (now (bank .entry)) (now (written .entry)) (now (src .entry)) (tileOf tile) «image_siz» dxt «word_count» ⌝ }
 {
-    let outside = (4095 < dxt) | (2048 < word_count);
-    let no = load_refusal(
-        bank.len(),
-        written.len(),
-        src.len(),
-        tile,
-        image_siz,
-        outside,
-    );
-    if no != 0 {
-        return Answer {
-            refusal: no,
-            count: 0,
-        };
-    }
-    let count = write_block_words(
-        bank,
-        written,
-        src,
-        load_fields(tile),
-        image_siz,
-        dxt as usize,
-        word_count as usize,
-    );
-    Answer { refusal: 0, count }
+    let asked = Asked::Block {
+        dxt: dxt as usize,
+        words: word_count as usize,
+    };
+    load(bank, written, src, tile, image_siz, asked)
 }
 
 // Rows of words, which stand `stride` bytes apart in the source.
@@ -92,34 +96,16 @@ pub fn write_tile_for_tile(
     words_per_row: u32,
     stride: u32,
 ) -> Answer
-    ensures { λ r. ⌜ answered r (now (bank .exit) ∷ now (written .exit) ∷ []) ≡ tileCall (now (bank .entry)) (now (written .entry)) (now (src .entry)) (tileOf tile) «image_siz» «row_count» «words_per_row» stride ⌝ }
+    ensures { λ r. ⌜ answered r (now (bank .exit) ∷ now (written .exit) ∷ [])
+        ≡ tileCall (now (bank .entry)) (now (written .entry)) (now (src .entry)) (tileOf tile) «image_siz»
+        «row_count» «words_per_row» stride ⌝ }
 {
-    let outside = (1024 < row_count) | (512 < words_per_row) | (65535 < stride);
-    let no = load_refusal(
-        bank.len(),
-        written.len(),
-        src.len(),
-        tile,
-        image_siz,
-        outside,
-    );
-    if no != 0 {
-        return Answer {
-            refusal: no,
-            count: 0,
-        };
-    }
-    let count = write_tile_rows(
-        bank,
-        written,
-        src,
-        load_fields(tile),
-        image_siz,
-        row_count as usize,
-        words_per_row as usize,
-        stride as usize,
-    );
-    Answer { refusal: 0, count }
+    let asked = Asked::Tile {
+        rows: row_count as usize,
+        words: words_per_row as usize,
+        stride: stride as usize,
+    };
+    load(bank, written, src, tile, image_siz, asked)
 }
 
 // A lookup table of `count` entries a row.
@@ -133,35 +119,13 @@ pub fn write_tlut_for_tile(
     rows: u32,
     stride: u32,
 ) -> Answer
-    ensures { λ r. ⌜ answered r (now (bank .exit) ∷ now (written .exit) ∷ []) ≡ tlutCall (now (bank .entry)) (now (written .entry)) (now (src .entry)) (tileOf tile) «image_siz» count rows stride ⌝ }
+    ensures { λ r. ⌜ answered r (now (bank .exit) ∷ now (written .exit) ∷ [])
+        ≡ tlutCall (now (bank .entry)) (now (written .entry)) (now (src .entry)) (tileOf tile) «image_siz» count rows stride ⌝ }
 {
-    let outside = (1024 < count) | (rows == 0) | (1024 < rows) | (65535 < stride);
-    let no = load_refusal(
-        bank.len(),
-        written.len(),
-        src.len(),
-        tile,
-        image_siz,
-        outside,
-    );
-    if no != 0 {
-        return Answer {
-            refusal: no,
-            count: 0,
-        };
-    }
-    let stores = write_tlut(
-        bank,
-        written,
-        src,
-        load_fields(tile),
-        image_siz,
-        count as usize,
-        rows as usize,
-        stride as usize,
-    );
-    Answer {
-        refusal: 0,
-        count: stores,
-    }
+    let asked = Asked::Tlut {
+        count: count as usize,
+        rows: rows as usize,
+        stride: stride as usize,
+    };
+    load(bank, written, src, tile, image_siz, asked)
 }

@@ -1,9 +1,7 @@
 // A tile load: rows of words, each from its own place of the source.
-ghost use mathlib.Core.Path.{_≡_};
 ghost use Prim.Native.Nat.{_<_, _≤_};
-ghost use lib.ListN.{length};
 ghost use Rattle.rules.specs.Load.{tileRow, tileStores};
-ghost use Rattle.tmem.specs.Part.{loadOf, Ranged, Lent, CarriedOut};
+ghost use Rattle.tmem.specs.Part.{loadOf, Lent, Counted};
 use crate::place::LoadTile;
 use crate::place::image_tile;
 use crate::words::Run;
@@ -21,25 +19,15 @@ fn write_tile_row(
     row: usize,
 ) -> u32
     requires { ⌜ Lent (now bank) (now written) ⌝ }
-    requires { ⌜ Ranged (loadOf tile) ⌝ }
     requires { ⌜ «image_siz» ≤ 3 ⌝ }
     requires { ⌜ words ≤ 512 ⌝ }
     requires { ⌜ stride ≤ 65535 ⌝ }
     requires { ⌜ row < 1024 ⌝ }
-    ensures { λ _. ⌜ CarriedOut (now (src .entry)) (tileRow (loadOf tile) «image_siz» words stride row) (now (bank .entry)) (now (written .entry)) (now (bank .exit)) (now (written .exit)) ⌝ }
-    ensures { λ r. ⌜ r ≡ length (tileRow (loadOf tile) «image_siz» words stride row) ⌝ }
+    ensures { λ r. ⌜ Counted (now (src .entry)) (tileRow (loadOf tile) «image_siz» words stride row)
+        (now (bank .entry)) (now (written .entry)) (now (bank .exit)) (now (written .exit)) r ⌝ }
 {
     let image = image_tile(tile, image_siz);
-    let columns = 16usize >> image_siz;
-    let place = row * stride;
-    let run = Run {
-        columns,
-        row,
-        dxt: 0,
-        place,
-        advance: 8,
-        replicate: false,
-    };
+    let run = Run::of_image(image_siz, row, 0, row * stride);
     write_words(bank, written, src, image, run, words)
 }
 
@@ -55,13 +43,12 @@ pub(crate) fn write_tile_rows(
     stride: usize,
 ) -> u32
     requires { ⌜ Lent (now bank) (now written) ⌝ }
-    requires { ⌜ Ranged (loadOf tile) ⌝ }
     requires { ⌜ «image_siz» ≤ 3 ⌝ }
     requires { ⌜ rows ≤ 1024 ⌝ }
     requires { ⌜ words ≤ 512 ⌝ }
     requires { ⌜ stride ≤ 65535 ⌝ }
-    ensures { λ _. ⌜ CarriedOut (now (src .entry)) (tileStores (loadOf tile) «image_siz» rows words stride) (now (bank .entry)) (now (written .entry)) (now (bank .exit)) (now (written .exit)) ⌝ }
-    ensures { λ r. ⌜ r ≡ length (tileStores (loadOf tile) «image_siz» rows words stride) ⌝ }
+    ensures { λ r. ⌜ Counted (now (src .entry)) (tileStores (loadOf tile) «image_siz» rows words stride)
+        (now (bank .entry)) (now (written .entry)) (now (bank .exit)) (now (written .exit)) r ⌝ }
 {
     let mut count = 0u32;
     for row in 0..rows {

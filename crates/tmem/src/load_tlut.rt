@@ -1,9 +1,8 @@
 // TLUT loads: the hardware's, which replicates a pair of bytes over a word's lanes, and rows of entries.
 ghost use mathlib.Core.Path.{_≡_};
 ghost use Prim.Native.Nat.{_≤_};
-ghost use lib.ListN.{length};
 ghost use Rattle.rules.specs.Load.{entries, advance, steps, hardwareStores, tlutStores};
-ghost use Rattle.tmem.specs.Part.{loadOf, Ranged, Lent, CarriedOut};
+ghost use Rattle.tmem.specs.Part.{loadOf, Lent, Counted};
 use crate::entries::write_tlut_rows;
 use crate::place::LoadTile;
 use crate::words::Run;
@@ -48,11 +47,10 @@ fn write_tlut_words(
     count: usize,
 ) -> u32
     requires { ⌜ Lent (now bank) (now written) ⌝ }
-    requires { ⌜ Ranged (loadOf tile) ⌝ }
     requires { ⌜ «image_siz» ≤ 3 ⌝ }
     requires { ⌜ count ≤ 1024 ⌝ }
-    ensures { λ _. ⌜ CarriedOut (now (src .entry)) (hardwareStores (loadOf tile) «image_siz» count) (now (bank .entry)) (now (written .entry)) (now (bank .exit)) (now (written .exit)) ⌝ }
-    ensures { λ r. ⌜ r ≡ length (hardwareStores (loadOf tile) «image_siz» count) ⌝ }
+    ensures { λ r. ⌜ Counted (now (src .entry)) (hardwareStores (loadOf tile) «image_siz» count)
+        (now (bank .entry)) (now (written .entry)) (now (bank .exit)) (now (written .exit)) r ⌝ }
 {
     let columns = 64usize >> image_siz;
     let advance = tlut_advance(image_siz);
@@ -80,13 +78,12 @@ pub(crate) fn write_tlut(
     stride: usize,
 ) -> u32
     requires { ⌜ Lent (now bank) (now written) ⌝ }
-    requires { ⌜ Ranged (loadOf tile) ⌝ }
     requires { ⌜ «image_siz» ≤ 3 ⌝ }
     requires { ⌜ count ≤ 1024 ⌝ }
     requires { ⌜ rows ≤ 1024 ⌝ }
     requires { ⌜ stride ≤ 65535 ⌝ }
-    ensures { λ _. ⌜ CarriedOut (now (src .entry)) (tlutStores (loadOf tile) «image_siz» count rows stride) (now (bank .entry)) (now (written .entry)) (now (bank .exit)) (now (written .exit)) ⌝ }
-    ensures { λ r. ⌜ r ≡ length (tlutStores (loadOf tile) «image_siz» count rows stride) ⌝ }
+    ensures { λ r. ⌜ Counted (now (src .entry)) (tlutStores (loadOf tile) «image_siz» count rows stride)
+        (now (bank .entry)) (now (written .entry)) (now (bank .exit)) (now (written .exit)) r ⌝ }
 {
     if (rows == 1) & (0 < image_siz) {
         return write_tlut_words(bank, written, src, tile, image_siz, count);

@@ -1,10 +1,12 @@
 // Where a word goes: the fields that a load takes of its tile, the row's word, the column's halfword, and the list of four.
 ghost use mathlib.Core.Path.{_≡_};
-ghost use Prim.Native.Nat.{_%_, _<_};
+ghost use Prim.Native.Nat.{_*_, _%_, _<_};
 ghost use lib.ListN.{getD};
+ghost use Rattle.rules.specs.Tile.{bankWords};
 ghost use Rattle.rules.specs.Load.{loadTile, imageTile, halfword, base, firstSpot, list4};
 ghost use Rattle.rdp.specs.View.{tileOf};
-ghost use Rattle.tmem.specs.Part.{loadOf, Ranged, Spots};
+ghost use Rattle.tmem.specs.Part.{loadOf, Spots};
+use crate::halfword::Halfword;
 use rdp::tile::TileDescriptor;
 use rdp::units::LineWords;
 use rdp::units::WordAddr;
@@ -49,45 +51,48 @@ pub(crate) fn image_tile(tile: LoadTile, image_siz: u32) -> LoadTile
 }
 
 // The halfword at which column s starts, in its line.
-pub(crate) fn column_halfword(tile: LoadTile, s: usize) -> usize
-    ensures { λ r. ⌜ r ≡ halfword (loadOf tile) s ⌝ }
+pub(crate) fn column_halfword(tile: LoadTile, s: usize) -> Halfword
+    ensures { λ r. ⌜ r .0 ≡ halfword (loadOf tile) s ⌝ }
 {
     if (tile.fmt == 1) | (tile.siz == 1) {
-        s / 2 % 2048
+        Halfword(s / 2 % Halfword::COUNT)
     } else if tile.siz == 0 {
-        s / 4 % 2048
+        Halfword(s / 4 % Halfword::COUNT)
     } else {
-        s % 2048
+        Halfword(s % Halfword::COUNT)
     }
 }
 
-// The word at which row t starts.
+// The word at which row t starts: the rule's, wrapped at the bank's end.
 pub(crate) fn row_word(tile: LoadTile, t: usize) -> WordAddr
-    requires { ⌜ Ranged (loadOf tile) ⌝ }
     requires { ⌜ t < 4096 ⌝ }
-    ensures { λ r. ⌜ r .0 ≡ base (loadOf tile) t ⌝ }
+    ensures { λ r. ⌜ r .0 ≡ base (loadOf tile) t % bankWords ⌝ }
 {
-    let words = tile.line.0 as usize * t % 512;
-    WordAddr(words as u32 + tile.tmem_addr.0)
+    let word = tile.tmem_addr;
+    let line = tile.line;
+    word.row(line, t as u32)
 }
 
-// The first of the word's four halfwords, by its number in the bank's half.
-pub(crate) fn first_halfword(row: WordAddr, halfword: usize) -> usize
-    requires { ⌜ row .0 < 1024 ⌝ }
-    requires { ⌜ halfword < 2048 ⌝ }
-    ensures { λ r. ⌜ r ≡ firstSpot (row .0) halfword ⌝ }
+// The bits of its number that a word's first halfword keeps: all but the second.
+const FIRST_MASK: usize = 0x7fd;
+
+// The first of the word's four halfwords.
+pub(crate) fn first_halfword(row: WordAddr, column: Halfword) -> Halfword
+    requires { ⌜ column .0 < 2048 ⌝ }
+    ensures { λ r. ⌜ r .0 ≡ firstSpot (row .0) (column .0) ⌝ }
 {
-    (4 * row.0 as usize + halfword) & 0x7fd
+    let word = Halfword::of_word(row);
+    Halfword((word.0 + column.0) & FIRST_MASK)
 }
 
-// The byte address at place k of the list of four: halfword k of the first one's word. Where that starts a halfword late, one
-// place is left over, and is the next word's.
-pub(crate) fn place_index(first: usize, odd: usize, k: usize) -> usize
-    requires { ⌜ Spots first odd ⌝ }
+// The halfword at place k of the list of four: halfword k of the first one's word. Where that starts a halfword late, one place is
+// left over, and is the next word's.
+pub(crate) fn place_halfword(first: Halfword, odd: usize, k: usize) -> Halfword
+    requires { ⌜ Spots (first .0) odd ⌝ }
     requires { ⌜ k < 4 ⌝ }
-    ensures { λ r. ⌜ r ≡ getD (list4 first odd) k 0 ⌝ }
-    ensures { λ r. ⌜ (r < 2048) × (r % 2 ≡ 0) ⌝ }
+    ensures { λ r. ⌜ 2 * (r .0 % 1024) ≡ getD (list4 (first .0) odd) k 0 ⌝ }
+    ensures { λ r. ⌜ r .0 < 2048 ⌝ }
 {
-    let late = (k == odd) as usize * (first % 4);
-    (first / 4 * 4 + k + 4 * late) % 1024 * 2
+    let late = (k == odd) as usize * (first.0 % 4);
+    Halfword((first.0 / 4 * 4 + k + 4 * late) % Halfword::COUNT)
 }

@@ -25,7 +25,8 @@ pub(crate) fn store_halfword(
 )
     requires { ⌜ Lent (now bank) (now written) ⌝ }
     requires { ⌜ (at .0 < bankSize) × (at .0 % 2 ≡ 0) ⌝ }
-    ensures { λ _. ⌜ CarriedOut (now (src .entry)) (halfStores (at .0) offset «next_offset») (now (bank .entry)) (now (written .entry)) (now (bank .exit)) (now (written .exit)) ⌝ }
+    ensures { λ _. ⌜ CarriedOut (now (src .entry)) (halfStores (at .0) offset «next_offset»)
+        (now (bank .entry)) (now (written .entry)) (now (bank .exit)) (now (written .exit)) ⌝ }
 {
     let i = at.0;
     bank[i] = source_byte(src, offset);
@@ -61,7 +62,9 @@ pub(crate) fn store_pair(
     requires { ⌜ (at .0 < bankSize) × (at .0 % 2 ≡ 0) ⌝ }
     requires { ⌜ source < 2 ^ 32 ⌝ }
     requires { ⌜ (k < 8) × («next_k» < 8) ⌝ }
-    ensures { λ _. ⌜ CarriedOut (now (src .entry)) (halfStores (at .0) (placeOf source replicate k) (placeOf source replicate «next_k»)) (now (bank .entry)) (now (written .entry)) (now (bank .exit)) (now (written .exit)) ⌝ }
+    ensures { λ _. ⌜ CarriedOut (now (src .entry))
+        (halfStores (at .0) (placeOf source replicate k) (placeOf source replicate «next_k»))
+        (now (bank .entry)) (now (written .entry)) (now (bank .exit)) (now (written .exit)) ⌝ }
 {
     let offset = byte_place(source, replicate, k);
     let next_offset = byte_place(source, replicate, next_k);

@@ -3,14 +3,14 @@ ghost use mathlib.Core.Path.{_≡_};
 ghost use mathlib.Core.Bool.{cond};
 ghost use Prim.Native.Nat.{_<_, _≤_, _^_};
 ghost use lib.Dec.{eqb};
-ghost use lib.ListN.{length};
 ghost use Rattle.rules.specs.Load.{list4, upper, splitStores, wholeStores, wordStores};
-ghost use Rattle.tmem.specs.Part.{loadOf, Ranged, Lent, Spots, placeOf, CarriedOut};
+ghost use Rattle.tmem.specs.Part.{loadOf, Lent, Spots, placeOf, CarriedOut, Counted};
 use crate::bank::Bank;
+use crate::halfword::Halfword;
 use crate::place::LoadTile;
 use crate::place::column_halfword;
 use crate::place::first_halfword;
-use crate::place::place_index;
+use crate::place::place_halfword;
 use crate::place::row_word;
 use crate::store::store_pair;
 use rdp::units::ByteAddr;
@@ -29,38 +29,31 @@ fn write_split_word(
     written: &mut [u8],
     src: &[u8],
     tile: LoadTile,
-    first: usize,
+    first: Halfword,
     odd: usize,
     start: usize,
     source: usize,
     replicate: bool,
 )
     requires { ⌜ Lent (now bank) (now written) ⌝ }
-    requires { ⌜ Spots first odd ⌝ }
+    requires { ⌜ Spots (first .0) odd ⌝ }
     requires { ⌜ start ≤ 2 ⌝ }
     requires { ⌜ source < 2 ^ 32 ⌝ }
-    ensures { λ _. ⌜ CarriedOut (now (src .entry)) (splitStores (loadOf tile) (list4 first odd) start (placeOf source replicate)) (now (bank .entry)) (now (written .entry)) (now (bank .exit)) (now (written .exit)) ⌝ }
+    ensures { λ _. ⌜ CarriedOut (now (src .entry))
+        (splitStores (loadOf tile) (list4 (first .0) odd) start (placeOf source replicate))
+        (now (bank .entry)) (now (written .entry)) (now (bank .exit)) (now (written .exit)) ⌝ }
 {
     let step = byte_step(tile);
     for i in 0..2 {
-        let low = place_index(first, odd, start + i);
-        let high = low + Bank::PALETTE_BASE;
+        let low = place_halfword(first, odd, start + i).lower_byte();
+        let high = ByteAddr(low.0 + Bank::PALETTE_BASE);
         let k = 4 * i;
+        store_pair(bank, written, src, low, source, replicate, k, k + step);
         store_pair(
             bank,
             written,
             src,
-            ByteAddr(low),
-            source,
-            replicate,
-            k,
-            k + step,
-        );
-        store_pair(
-            bank,
-            written,
-            src,
-            ByteAddr(high),
+            high,
             source,
             replicate,
             k + 3 - step,
@@ -74,25 +67,27 @@ fn write_whole_word(
     bank: &mut [u8],
     written: &mut [u8],
     src: &[u8],
-    first: usize,
+    first: Halfword,
     odd: usize,
     source: usize,
     replicate: bool,
 )
     requires { ⌜ Lent (now bank) (now written) ⌝ }
-    requires { ⌜ Spots first odd ⌝ }
+    requires { ⌜ Spots (first .0) odd ⌝ }
     requires { ⌜ source < 2 ^ 32 ⌝ }
-    ensures { λ _. ⌜ CarriedOut (now (src .entry)) (wholeStores (list4 first odd) (upper first) odd (placeOf source replicate)) (now (bank .entry)) (now (written .entry)) (now (bank .exit)) (now (written .exit)) ⌝ }
+    ensures { λ _. ⌜ CarriedOut (now (src .entry))
+        (wholeStores (list4 (first .0) odd) (upper (first .0)) odd (placeOf source replicate))
+        (now (bank .entry)) (now (written .entry)) (now (bank .exit)) (now (written .exit)) ⌝ }
 {
-    let high = 2 * (first & 0x400);
     for k in 0..4 {
-        let address = place_index(first, odd, k) + high;
+        let n = place_halfword(first, odd, k);
+        let address = ByteAddr(n.lower_byte().0 + first.half_start().0);
         let byte = 2 * (k ^ odd);
         store_pair(
             bank,
             written,
             src,
-            ByteAddr(address),
+            address,
             source,
             replicate,
             byte,
@@ -113,17 +108,16 @@ pub(crate) fn write_load_word(
     replicate: bool,
 ) -> u32
     requires { ⌜ Lent (now bank) (now written) ⌝ }
-    requires { ⌜ Ranged (loadOf tile) ⌝ }
     requires { ⌜ t < 4096 ⌝ }
     requires { ⌜ source < 2 ^ 32 ⌝ }
-    ensures { λ _. ⌜ CarriedOut (now (src .entry)) (wordStores (loadOf tile) s t (placeOf source replicate)) (now (bank .entry)) (now (written .entry)) (now (bank .exit)) (now (written .exit)) ⌝ }
-    ensures { λ r. ⌜ r ≡ length (wordStores (loadOf tile) s t (placeOf source replicate)) ⌝ }
+    ensures { λ r. ⌜ Counted (now (src .entry)) (wordStores (loadOf tile) s t (placeOf source replicate))
+        (now (bank .entry)) (now (written .entry)) (now (bank .exit)) (now (written .exit)) r ⌝ }
 {
-    let halfword = column_halfword(tile, s);
-    let first = first_halfword(row_word(tile, t), halfword);
+    let column = column_halfword(tile, s);
+    let first = first_halfword(row_word(tile, t), column);
     let odd = t % 2 * 2;
     if (tile.fmt == 1) | ((tile.fmt == 0) & (tile.siz == 3)) {
-        let start = (halfword & 2) ^ odd;
+        let start = (column.0 & 2) ^ odd;
         write_split_word(
             bank,
             written,

@@ -1,9 +1,8 @@
 // A run of word loads, which block, tile and TLUT loads share.
 ghost use mathlib.Core.Path.{_≡_};
 ghost use Prim.Native.Nat.{_<_, _≤_, _^_};
-ghost use lib.ListN.{length};
-ghost use Rattle.tmem.specs.Part.{loadOf, Ranged, Lent, CarriedOut};
-ghost use Rattle.tmem.specs.Run.{Paced, wordAt, runStores};
+ghost use Rattle.tmem.specs.Part.{loadOf, Lent, Counted};
+ghost use Rattle.tmem.specs.Run.{Paced, imageRun, wordAt, runStores};
 use crate::place::LoadTile;
 use crate::word::write_load_word;
 
@@ -24,6 +23,9 @@ pub(crate) struct Run {
 // The dxt that advances a whole row a word.
 const DXT_SWAP: usize = 0x800;
 
+// The bytes of a word.
+const WORD_BYTES: usize = 8;
+
 // The column, row and source place of a word.
 struct WordAt {
     s: usize,
@@ -32,6 +34,22 @@ struct WordAt {
 }
 
 impl Run {
+    // Words of an image, which stand one after the other in the source.
+    pub(crate) fn of_image(image_siz: u32, row: usize, dxt: usize, place: usize) -> Run
+        requires { ⌜ «image_siz» ≤ 3 ⌝ }
+        ensures { λ r. ⌜ r ≡ imageRun «image_siz» row dxt place ⌝ }
+    {
+        let columns = 16usize >> image_siz;
+        Run {
+            columns,
+            row,
+            dxt,
+            place,
+            advance: WORD_BYTES,
+            replicate: false,
+        }
+    }
+
     // Where word w of the run stands.
     fn word(self, w: usize) -> WordAt
         requires { ⌜ Paced self ⌝ }
@@ -56,11 +74,10 @@ pub(crate) fn write_words(
     words: usize,
 ) -> u32
     requires { ⌜ Lent (now bank) (now written) ⌝ }
-    requires { ⌜ Ranged (loadOf tile) ⌝ }
     requires { ⌜ Paced run ⌝ }
     requires { ⌜ words ≤ 2048 ⌝ }
-    ensures { λ _. ⌜ CarriedOut (now (src .entry)) (runStores (loadOf tile) run words) (now (bank .entry)) (now (written .entry)) (now (bank .exit)) (now (written .exit)) ⌝ }
-    ensures { λ r. ⌜ r ≡ length (runStores (loadOf tile) run words) ⌝ }
+    ensures { λ r. ⌜ Counted (now (src .entry)) (runStores (loadOf tile) run words)
+        (now (bank .entry)) (now (written .entry)) (now (bank .exit)) (now (written .exit)) r ⌝ }
 {
     let mut count = 0u32;
     for word in 0..words {

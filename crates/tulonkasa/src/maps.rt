@@ -82,5 +82,5 @@ pub extern "C" fn tk_tile_has_load(
 pub extern "C" fn tk_palette_nonreplicated(bank: &[u8], map: &mut [u8]) -> u32
     ensures { λ r. ⌜ refusalAnswered r (now (map .exit) ∷ []) ≡ laneCall (now (bank .entry)) (now (map .entry)) ⌝ }
 {
-    lane_check::lane::palette_nonreplicated_bytes(bank, map)
+    reach::lane::palette_nonreplicated_bytes(bank, map)
 }

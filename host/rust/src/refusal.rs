@@ -5,7 +5,7 @@ use std::fmt;
 #[derive(Clone, Copy, Debug, PartialEq, Eq, Hash)]
 #[non_exhaustive]
 pub enum Refusal {
-    /// 1: a bank, key or map has a wrong length. No call of this crate's safe part can get it.
+    /// 1: a bank, key or map has a wrong length. The calls of [`crate::slices`] can get it; those on this crate's own types can't.
     Length,
     /// 2: a field of the tile is out of range.
     Tile,

@@ -1,5 +1,5 @@
 -- `decoder::texel::decode_texel_lane` is the rule's texel, through the lookup table or without. Assumes nothing.
-use Rattle.decoder.proofs.Texels.{texel-tlut, texel-direct}
+use Rattle.rules.proofs.Formats.{texel-tlut, texel-direct}
 use Rattle.decoder.proofs.Formats.{placed, kind-table, kind-place}
 use Rattle.rdp.specs.View.{tileOf}
 use borrow.Author.Tests.{lt-leb}

@@ -1,10 +1,7 @@
 -- `key::reads::note_texel` notes by the mode: through the lookup table, or by the pair. Assumes nothing.
-use mathlib.Core.Path.{_≡_}
 use native.Mathlib.Omega.{arith}
-use borrow.Author.Tests.{le-leb, lt-leb}
 use borrow.Author.Needs.{needs}
-use Rattle.rules.specs.Picture.{texel}
-use Rattle.rules.proofs.Formats.{accepted-direct, texel-direct}
+use Rattle.rules.proofs.Formats.{accepted-direct, texel-tlut, texel-direct}
 use Rattle.key.proofs.reads.note_texel.Statement.{statement}
 use Rattle.key.proofs.reads.note_texel.Tie as tie
 
@@ -24,10 +21,9 @@ same-length : tie.Need-same-length
 same-length c = search needs
 
 returns : tie.Need-returns
-unfolding texel
 returns c =
     let n = c .before .before in
-    rw (texel, le-leb 2 _ (n .before .before .if1 .taken)) (n .note-paletted .ensures _)
+    rw (texel-tlut _ _ _ _ _ _ (n .before .before .if1 .taken)) (n .note-paletted .ensures _)
 
 same-length-2 : tie.Need-same-length-2
 same-length-2 c = search needs

@@ -1,8 +1,7 @@
 -- `reach::extent::axis_extent` goes by the rule's test; below 16 the shift loses nothing. Assumes nothing.
-use Prim.Native.Nat.{_*_, _%_, _^_}
 use native.Mathlib.Omega.{arith}
 use borrow.Author.Needs.{needs}
-use Rattle.rules.proofs.Computed.{agree-below}
+use Rattle.reach.proofs.Bytes.{bit-shifted}
 use Rattle.reach.proofs.extent.axis_extent.Statement.{statement}
 use Rattle.reach.proofs.extent.axis_extent.Tie as tie
 
@@ -13,8 +12,7 @@ greater-requires : tie.Need-greater-requires
 greater-requires c κs = search needs
 
 returns : tie.Need-returns
-returns c =
-    rw (c .if1 .taken) (agree-below 16 (λ k. 1 * 2 ^ k % 2 ^ 64) (λ k. 2 ^ k) tt (c .before .args .mask) (omega arith))
+returns c = rw (c .if1 .taken) (bit-shifted (c .before .args .mask) 64 (omega arith))
 
 returns-2 : tie.Need-returns-2
 returns-2 c = rw (c .before .if1 .left) (c .greater .ensures)

@@ -1,12 +1,13 @@
 -- `reach::fresh::clear` stores zeros from the front on. The loop's invariant: the bytes below i are zero. Assumes nothing.
 use mathlib.Core.Path.{_≡_, sym, _∙_}
 use mathlib.Core.List.{List}
-use Prim.Native.Nat.{ℕ, _+_, _-_, _<_, _≤_}
+use Prim.Native.Nat.{ℕ, zero, _+_, _-_, _<_, _≤_}
 use native.Mathlib.Decide.{ℕ-discrete}
 use native.Mathlib.Omega.{arith}
-use lib.ListN.{length, getD, set, replicate, length-set, length-replicate, getD-replicate}
+use lib.ListN.{length, getD, set, length-set, length-replicate, getD-replicate}
 use lib.Seq.{ext-getD, getD-set-same, getD-set-other}
 use borrow.Author.Needs.{needs}
+use Rattle.rules.specs.Tile.{mapSize, freshMap}
 use Rattle.reach.proofs.fresh.clear.Statement.{statement}
 use Rattle.reach.proofs.fresh.clear.Tie as tie
 
@@ -22,21 +23,21 @@ one-more m i h z k l = go (ℕ-discrete k i)
     go (yes e) = rw e (getD-set-same m i 0 0 h)
     go (no e) = getD-set-other m i k 0 0 e ∙ z k (omega (arith, e))
 
-all-zero : (m : List ℕ) (n : ℕ) → length m ≡ n → Zeros m n → m ≡ replicate n 0
+all-zero : (m : List ℕ) → length m ≡ mapSize → Zeros m mapSize → m ≡ freshMap
 unfolding Zeros
-all-zero m n e z =
-    ext-getD 0 m (replicate n 0) (e ∙ sym (length-replicate n 0))
-    (λ k h. let l : k < n = omega arith in z k l ∙ sym (getD-replicate n k 0 0 l))
+all-zero m e z =
+    ext-getD 0 m freshMap (e ∙ sym (length-replicate mapSize zero))
+    (λ k h. let l : k < mapSize = omega arith in z k l ∙ sym (getD-replicate mapSize k zero zero l))
 
 abbrev Inv-loop : tie.InvT-loop
-Inv-loop map₀ end i₀ map i = (i ≤ end) × (length map ≡ length map₀) × Zeros map i
+Inv-loop map₀ end i₀ map i = (i ≤ end) × (length map ≡ mapSize) × Zeros map i
 
 abbrev μ-loop : tie.MeasureT-loop
 μ-loop map₀ end i₀ map i = end - i
 
 loop-holds : tie.Need-loop-holds Inv-loop μ-loop
 unfolding Zeros
-loop-holds c = (omega arith, omega arith, λ k h. absurd (omega arith))
+loop-holds c = (omega arith, c .pre, λ k h. absurd (omega arith))
 
 slice-write-map : tie.Need-slice-write-map Inv-loop μ-loop
 slice-write-map c = search needs
@@ -58,8 +59,8 @@ same-length c = search needs
 returns : tie.Need-returns Inv-loop μ-loop
 returns c =
     let l = c .before .loop in
-    let end : l .i ≡ length (c .before .before .args .map .now) = omega arith in
-    all-zero (l .map) _ (l .inv .1) (rw (← end) (l .inv .2))
+    let end : l .i ≡ mapSize = omega arith in
+    all-zero (l .map) (l .inv .1) (rw (← end) (l .inv .2))
 
 pub clear-spec : {M : Type 1} → statement M
 clear-spec =

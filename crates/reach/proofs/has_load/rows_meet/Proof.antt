@@ -32,8 +32,7 @@ loop-holds c = (omega arith, none-yet _ _)
 of-row-requires : tie.Need-of-row-requires Inv-loop μ-loop
 of-row-requires c κs =
     let e = c .before .before .before in
-    let d = e .before .before in
-    (d .pre .1, (omega (arith, rows-le (tileOf (d .args .tile))), e .row-bytes .ensures))
+    (omega (arith, rows-le (tileOf (e .before .before .args .tile))), e .row-bytes .ensures)
 
 span-meets-requires : tie.Need-span-meets-requires Inv-loop μ-loop
 span-meets-requires c κs = (c .before .before .before .before .before .before .pre .0, c .of-row .ensures .1)

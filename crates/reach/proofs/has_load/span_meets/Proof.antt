@@ -20,8 +20,8 @@ Inv-loop written span words w₀ w =
 abbrev μ-loop : tie.MeasureT-loop
 μ-loop written span words w₀ w = words - w
 
-add-words : tie.Need-add-words Inv-loop μ-loop
-add-words c = search needs
+words-requires : tie.Need-words-requires Inv-loop μ-loop
+words-requires c κs = search needs
 
 loop-holds : tie.Need-loop-holds Inv-loop μ-loop
 loop-holds c = (omega arith, rw (cut-none (c .before .before .args .span)) (none-yet _ _))
@@ -59,8 +59,10 @@ loop-less c = search needs
 loop-again : tie.Need-loop-again Inv-loop μ-loop
 loop-again c =
     let l = c .before .before .before .before .before in
-    let e = l .before .before .before .args in
-    (search needs, span-any (e .span) (l .loop .w) (omega arith) (e .written .now) ∙ rw (l .loop .inv .1, sym (found (c .before)) ∙ c .if1 .left))
+    let e = l .before .before .before .args in (
+      search needs,
+      span-any (e .span) (l .loop .w) (omega arith) (e .written .now) ∙ rw (l .loop .inv .1, sym (found (c .before)) ∙ c .if1 .left),
+    )
 
 returns-2 : tie.Need-returns-2 Inv-loop μ-loop
 unfolding reached
@@ -74,7 +76,7 @@ span-meets-spec =
     (tie.spec
     Inv-loop
     μ-loop
-    add-words
+    words-requires
     loop-holds
     word-requires
     bits-requires

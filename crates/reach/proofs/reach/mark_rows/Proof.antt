@@ -6,6 +6,7 @@ use native.Mathlib.Omega.{arith}
 use lib.ListN.{length}
 use borrow.Author.Needs.{needs}
 use Rattle.rules.specs.Base.{tab, concat, marks}
+use Rattle.rules.specs.Tile.{mapSize}
 use Rattle.rules.specs.Reach.{reachRow, reachPlain}
 use Rattle.rdp.specs.View.{tileOf}
 use Rattle.reach.proofs.Joined.{marks-none, marks-more}
@@ -15,7 +16,7 @@ use Rattle.reach.proofs.reach.mark_rows.Tie as tie
 
 abbrev Inv-loop : tie.InvT-loop
 Inv-loop map₀ tile tlut bytes rows y₀ map y =
-    (y ≤ rows) × (map ≡ marks map₀ (concat (tab y (reachRow (tileOf tile) tlut)))) × (length map ≡ 512)
+    (y ≤ rows) × (map ≡ marks map₀ (concat (tab y (reachRow (tileOf tile) tlut)))) × (length map ≡ mapSize)
 
 abbrev μ-loop : tie.MeasureT-loop
 μ-loop map₀ tile tlut bytes rows y₀ map y = rows - y
@@ -32,8 +33,7 @@ loop-holds c = (omega arith, sym (marks-none _ _), c .before .before .before .pr
 of-row-requires : tie.Need-of-row-requires Inv-loop μ-loop
 of-row-requires c κs =
     let e = c .before .before .before .before in
-    let d = e .before .before in
-    (d .pre .1, (omega (arith, rows-le (tileOf (d .args .tile))), e .row-bytes .ensures))
+    (omega (arith, rows-le (tileOf (e .before .before .args .tile))), e .row-bytes .ensures)
 
 mark-span-requires : tie.Need-mark-span-requires Inv-loop μ-loop
 mark-span-requires c κs = (c .before .before .before .loop .inv .2, c .of-row .ensures .1)
@@ -46,9 +46,10 @@ loop-less c = search needs
 
 loop-again : tie.Need-loop-again Inv-loop μ-loop
 loop-again c =
-    let d = c .before .before in (
+    let d = c .before .before in
+    let l = d .before .before .before .before .loop in (
       search needs,
-      marks-more _ _ _ _ _ (d .before .before .before .before .loop .inv .1) (rw (d .before .of-row .ensures .0) at (d .mark-span .ensures)),
+      marks-more _ _ _ _ _ (l .inv .1) (rw (d .before .of-row .ensures .0) at (d .mark-span .ensures)),
       omega (arith, d .mark-span .kept .0),
     )
 

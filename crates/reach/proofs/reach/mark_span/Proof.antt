@@ -6,6 +6,7 @@ use native.Mathlib.Omega.{arith}
 use lib.ListN.{length}
 use borrow.Author.Needs.{needs}
 use Rattle.rules.specs.Base.{tab, concat, marks}
+use Rattle.rules.specs.Tile.{mapSize}
 use Rattle.reach.proofs.Joined.{marks-none}
 use Rattle.reach.specs.Span.{reachedAt, reached}
 use Rattle.reach.proofs.Spans.{cutAt, cut-none, cut-all, span-marks}
@@ -14,13 +15,13 @@ use Rattle.reach.proofs.reach.mark_span.Tie as tie
 
 abbrev Inv-loop : tie.InvT-loop
 Inv-loop map₀ span words w₀ map w =
-    (w ≤ words) × (map ≡ marks map₀ (concat (tab (cutAt span w) (reachedAt span)))) × (length map ≡ 512)
+    (w ≤ words) × (map ≡ marks map₀ (concat (tab (cutAt span w) (reachedAt span)))) × (length map ≡ mapSize)
 
 abbrev μ-loop : tie.MeasureT-loop
 μ-loop map₀ span words w₀ map w = words - w
 
-add-words : tie.Need-add-words Inv-loop μ-loop
-add-words c = search needs
+words-requires : tie.Need-words-requires Inv-loop μ-loop
+words-requires c κs = search needs
 
 loop-holds : tie.Need-loop-holds Inv-loop μ-loop
 loop-holds c =
@@ -49,9 +50,10 @@ loop-again c =
     let d = c .before .before in
     let b = d .before in
     let l = b .before .before .before .before in
-    let e = l .before .before .before .args in (
+    let e = l .before .before .before .args in
+    let more = span-marks (e .span) (l .loop .w) (omega arith) (e .map .now) in (
       search needs,
-      d .mark-word .ensures ∙ rw (b .before .word .ensures .0, b .bits .ensures, l .loop .inv .1) (sym (span-marks (e .span) (l .loop .w) (omega arith) (e .map .now))),
+      d .mark-word .ensures ∙ rw (b .before .word .ensures .0, b .bits .ensures, l .loop .inv .1) (sym more),
       omega (arith, d .mark-word .kept .0),
     )
 
@@ -71,7 +73,7 @@ mark-span-spec =
     (tie.spec
     Inv-loop
     μ-loop
-    add-words
+    words-requires
     loop-holds
     word-requires
     bits-requires

@@ -1,10 +1,10 @@
 -- `reach::span::first_bits` is one less than a power of two: below 8 the shift loses nothing. Assumes nothing.
 use mathlib.Core.Path.{_≡_}
-use Prim.Native.Nat.{ℕ, _*_, _%_, _^_, _<_, min}
+use Prim.Native.Nat.{min}
 use native.Mathlib.Omega.{arith}
 use lib.Pow.{pow-pos}
 use borrow.Author.Needs.{needs}
-use Rattle.rules.proofs.Computed.{agree-below}
+use Rattle.reach.proofs.Bytes.{bit-shifted}
 use Rattle.reach.proofs.span.first_bits.Statement.{statement}
 use Rattle.reach.proofs.span.first_bits.Tie as tie
 
@@ -14,17 +14,14 @@ cast-result c = search needs
 shl-result : tie.Need-shl-result
 shl-result c = search needs
 
-shifted : (n : ℕ) → n < 8 → 1 * 2 ^ n % 256 ≡ 2 ^ n
-shifted = agree-below 8 (λ n. 1 * 2 ^ n % 256) (λ n. 2 ^ n) tt
-
 sub-result : tie.Need-sub-result
-sub-result c = rw (shifted (c .before .args .count) (omega arith)) (pow-pos (c .before .args .count))
+sub-result c = rw (bit-shifted (c .before .args .count) 8 (omega arith)) (pow-pos (c .before .args .count))
 
 returns : tie.Need-returns
 returns c =
     let n = c .before .args .count in
     let few : min n 8 ≡ n = omega arith in
-    rw (few, shifted n (omega arith))
+    rw (few, bit-shifted n 8 (omega arith))
 
 returns-2 : tie.Need-returns-2
 returns-2 c = let e : min (c .before .args .count) 8 ≡ 8 = omega arith in rw e

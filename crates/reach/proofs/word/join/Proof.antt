@@ -1,6 +1,6 @@
 -- `reach::word::join` is the list that its contract names. Assumes nothing.
 use borrow.Author.Needs.{needs}
-use Rattle.rules.proofs.Bits.{joined}
+use Rattle.reach.specs.Words.{joined}
 use Rattle.reach.proofs.word.join.Statement.{statement}
 use Rattle.reach.proofs.word.join.Tie as tie
 

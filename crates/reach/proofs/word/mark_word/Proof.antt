@@ -2,7 +2,7 @@
 use Prim.Native.Nat.{_<_}
 use native.Mathlib.Omega.{arith}
 use borrow.Author.Needs.{needs}
-use Rattle.reach.specs.Words.{wordJoined}
+use Rattle.reach.specs.Words.{lowWords, wordJoined}
 use Rattle.reach.proofs.word.mark_word.Statement.{statement}
 use Rattle.reach.proofs.word.mark_word.Tie as tie
 
@@ -10,7 +10,7 @@ join-requires : tie.Need-join-requires
 join-requires c κs = search needs
 
 -- a word that stands for another lies in the lower half
-low : (c : tie.Then1) → c .before .before .before .before .before .before .args .at < 256
+low : (c : tie.Then1) → c .before .before .before .before .before .before .args .at < lowWords
 low c = c .before .before .before .before .before .before .pre .1 .1 (c .if1 .taken)
 
 add-join : tie.Need-add-join

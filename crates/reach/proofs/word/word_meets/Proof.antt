@@ -2,7 +2,7 @@
 use Prim.Native.Nat.{_<_}
 use native.Mathlib.Omega.{arith}
 use borrow.Author.Needs.{needs}
-use Rattle.reach.specs.Words.{wordMeets}
+use Rattle.reach.specs.Words.{lowWords, wordMeets}
 use Rattle.reach.proofs.word.word_meets.Statement.{statement}
 use Rattle.reach.proofs.word.word_meets.Tie as tie
 
@@ -10,7 +10,7 @@ meets-requires : tie.Need-meets-requires
 meets-requires c κs = search needs
 
 -- a word that stands for another lies in the lower half
-low : (c : tie.Then1) → c .before .before .args .at < 256
+low : (c : tie.Then1) → c .before .before .args .at < lowWords
 low c = c .before .before .pre .1 .1 (c .if1 .taken)
 
 add-meets : tie.Need-add-meets

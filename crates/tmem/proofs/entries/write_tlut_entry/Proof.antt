@@ -1,7 +1,8 @@
 -- `tmem::entries::write_tlut_entry` carries out its eight stores, a halfword at a time. Assumes nothing.
-use mathlib.Core.Path.{refl}
+use mathlib.Core.Path.{sym}
 use Prim.Native.Nat.{_-_}
 use native.Mathlib.Omega.{arith}
+use Rattle.rules.proofs.Tables.{length-tab}
 use Rattle.tmem.proofs.Carry.{Turn, begin, next, finish}
 use Rattle.tmem.proofs.Rows.{entryTurn, entry-is}
 use Rattle.tmem.proofs.entries.write_tlut_entry.Statement.{statement}
@@ -50,7 +51,8 @@ same-length-2 c = omega arith
 returns : tie.Need-returns Inv-loop μ-loop
 returns c =
     let a = c .before .before .before .before .before .args in
-    (rw (← entry-is (a .at .0) (a .source)) (finish (c .before .loop .inv) (c .loop-test .left)), refl)
+    let carried = finish (c .before .loop .inv) (c .loop-test .left) in
+    record { carried = rw (← entry-is (a .at .0) (a .source)) carried; count-is = sym (length-tab 8 _) }
 
 pub write-tlut-entry-spec : {M : Type 1} → statement M
 write-tlut-entry-spec =

@@ -1,31 +1,28 @@
 -- `tmem::entries::write_tlut_row` carries out the entries of a row, one after the other. Assumes nothing.
-use mathlib.Core.Path.{_≡_, _∙_, sym}
-use Prim.Native.Nat.{_+_, _-_, _*_, _%_, _≤_}
+use mathlib.Core.Path.{_∙_}
+use Prim.Native.Nat.{_-_, _*_, _≤_}
 use native.Mathlib.Omega.{arith}
 use Rattle.rules.specs.Load.{entryStores, entryRow}
+use Rattle.rules.proofs.Tables.{length-tab}
 use Rattle.tmem.specs.Part.{loadOf}
-use Rattle.tmem.proofs.Carry.{Counted, begin-count, next-count, finish-count, count-within}
+use Rattle.tmem.proofs.Carry.{Counting, begin-count, next-count, finish-count, count-within}
 use Rattle.tmem.proofs.Indices.{product-within}
-use Rattle.tmem.proofs.Rows.{entry-length, entry-within, entry-even, entry-at}
+use Rattle.tmem.proofs.Rows.{entry-length, entry-at}
 use Rattle.tmem.proofs.entries.write_tlut_row.Statement.{statement}
 use Rattle.tmem.proofs.entries.write_tlut_row.Tie as tie
 
 abbrev Inv-loop : tie.InvT-loop
 Inv-loop bank₀ written₀ src tile count stride row stores₀ i₀ bank written stores i =
-    Counted count (entryStores (loadOf tile) stride row) src bank₀ written₀ i bank written stores
+    Counting count (entryStores (loadOf tile) stride row) src bank₀ written₀ i bank written stores
 
 abbrev μ-loop : tie.MeasureT-loop
 μ-loop bank₀ written₀ src tile count stride row stores₀ i₀ bank written stores i = count - i
 
-source-within : (c : tie.In-loop Inv-loop μ-loop) → let a = c .before .before .before .before .before .args in a .row * a .stride ≤ 1023 * 65535
+source-within : (c : tie.In-loop Inv-loop μ-loop)
+    → let a = c .before .before .before .before .before .args in a .row * a .stride ≤ 1023 * 65535
 source-within c =
     let s = c .before .before .before .before .before in
     product-within 1023 65535 (s .args .row) (s .args .stride) (omega (arith, s)) (omega (arith, s))
-
-count-fits : (c : tie.In-loop Inv-loop μ-loop) → c .before .loop .stores + 8 ≤ 1024 * 8
-count-fits c =
-    let s = c .before .before .before .before .before in
-    count-within 8 1024 8 (entry-length _ _ _) (s .pre .1 .1 .0) (omega arith) (c .before .loop .inv) (c .loop-test .taken)
 
 loop-holds : tie.Need-loop-holds Inv-loop μ-loop
 loop-holds c = begin-count (c .before .before .before .pre .0)
@@ -33,7 +30,7 @@ loop-holds c = begin-count (c .before .before .before .pre .0)
 entry-addr-requires : tie.Need-entry-addr-requires Inv-loop μ-loop
 entry-addr-requires c κs =
     let s = c .before .before .before .before .before in
-    (s .pre .1 .0, (s .pre .1 .1 .1 .1, omega (arith, s)))
+    (s .pre .1 .1 .1, omega (arith, s))
 
 mul-source : tie.Need-mul-source Inv-loop μ-loop
 mul-source c = omega (arith, source-within (c .before))
@@ -48,15 +45,14 @@ write-tlut-entry-requires : tie.Need-write-tlut-entry-requires Inv-loop μ-loop
 write-tlut-entry-requires c κs =
     let e = c .before .before in
     let d = e .before in
-    let a = d .before .before .before .before .before .args in
-    let room : e .entry-addr .result .0 + 8 ≤ 4096 = rw (e .entry-addr .ensures) (entry-within (a .tile .«tmem_addr» .0) (a .row) (a .tile .line .0) (d .before .loop .i)) in
-    let even : e .entry-addr .result .0 % 2 ≡ 0 = rw (e .entry-addr .ensures) (entry-even (a .tile .«tmem_addr» .0) (a .row) (a .tile .line .0) (d .before .loop .i)) in
-    (d .before .loop .inv .turn .lent, ((room, even), omega (arith, source-within d)))
+    (d .before .loop .inv .turn .lent, (e .entry-addr .ensures .1, omega (arith, source-within d)))
 
 add-stores : tie.Need-add-stores Inv-loop μ-loop
 add-stores c =
     let d = c .before .before .before .before in
-    omega (arith, count-fits (d .before .before .before .before), d .write-tlut-entry .ensures .1)
+    let l = d .before .before .before .before in
+    let few = count-within 8 1024 8 (entry-length _ _ _) (l .before .before .before .before .before .pre .1 .0) (omega arith) in
+    omega (arith, few (l .before .loop .inv) (l .loop-test .taken) (d .write-tlut-entry .ensures .count-is ∙ length-tab 8 _))
 
 add-i : tie.Need-add-i Inv-loop μ-loop
 add-i c = let d = c .before .before .before .before in omega (arith, d .before .before .before .before)
@@ -70,10 +66,8 @@ loop-again c =
     let e = d .before .before .before in
     let l = e .before in
     let a = l .before .before .before .before .before .args in
-    let i = l .before .loop .i in
-    next-count (l .before .loop .inv) (l .loop-test .taken)
-    (rw (← entry-at (loadOf (a .tile)) (a .stride) (a .row) i _ (e .entry-addr .ensures)) (d .write-tlut-entry .ensures .0))
-    (d .write-tlut-entry .ensures .1 ∙ sym (entry-length (loadOf (a .tile)) (a .stride) (a .row) i))
+    let is = entry-at (loadOf (a .tile)) (a .stride) (a .row) (l .before .loop .i) _ (e .entry-addr .ensures .0) in
+    next-count (l .before .loop .inv) (l .loop-test .taken) (rw (← is) (d .write-tlut-entry .ensures))
 
 same-length : tie.Need-same-length Inv-loop μ-loop
 same-length c = omega arith

@@ -20,8 +20,9 @@ write-words-requires : tie.Need-write-words-requires
 write-words-requires c κs =
     let n = c .before .before in
     let s = n .before .before .before .before .before in
-    let few : n .tlut-steps .result ≤ 1024 = rw (n .tlut-steps .ensures) (steps-within (s .args .image-siz) (s .args .count) (s .pre .1 .1 .0) (s .pre .1 .1 .1)) in
-    (s .pre .0, (s .pre .1 .0, (rw (n .before .tlut-advance .ensures) (tlut-paced (s .args .image-siz)), omega (arith, few))))
+    let few : n .tlut-steps .result ≤ 1024 =
+    rw (n .tlut-steps .ensures) (steps-within (s .args .image-siz) (s .args .count) (s .pre .1 .0) (s .pre .1 .1)) in
+    (s .pre .0, (rw (n .before .tlut-advance .ensures) (tlut-paced (s .args .image-siz)), omega (arith, few)))
 
 same-length : tie.Need-same-length
 same-length c = search needs
@@ -34,7 +35,8 @@ returns c =
     let d = c .before .before .before .before in
     let s = d .before .before .before .before .before .before .before .before in
     let n = d .before .before .before in
-    rw (← tlut-is (loadOf (s .args .tile)) (s .args .image-siz) (s .args .count), ← n .tlut-steps .ensures, ← n .before .tlut-advance .ensures) (d .write-words .ensures)
+    let is = tlut-is (loadOf (s .args .tile)) (s .args .image-siz) (s .args .count) in
+    rw (← is, ← n .tlut-steps .ensures, ← n .before .tlut-advance .ensures) (d .write-words .ensures)
 
 pub write-tlut-words-spec : {M : Type 1} → statement M
 write-tlut-words-spec =

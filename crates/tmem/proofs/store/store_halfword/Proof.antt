@@ -35,7 +35,10 @@ returns : tie.Need-returns
 unfolding stored written marks
 returns c =
     let second = c .before .before .before .before in
-    record { bank-is = rw (second .source-byte2 .ensures, second .before .source-byte .ensures); map-is = c .before .before .mark-in .ensures }
+    record {
+      bank-is = rw (second .source-byte2 .ensures, second .before .source-byte .ensures);
+      map-is = c .before .before .mark-in .ensures;
+    }
 
 pub store-halfword-spec : {M : Type 1} → statement M
 store-halfword-spec =

@@ -1,20 +1,23 @@
 -- `tmem::word::write_load_word` is one of the two shapes, by the rule's test, and either is eight stores. Assumes nothing.
-use mathlib.Core.Path.{refl, sym}
+use mathlib.Core.Path.{refl, sym, _∙_}
 use Prim.Native.Nat.{_*_, _%_}
 use native.Mathlib.Omega.{arith}
-use Rattle.tmem.specs.Part.{loadOf}
-use Rattle.tmem.proofs.Places.{Found, spots, start-within, split-word, whole-word, word-length}
+use Rattle.rules.specs.Load.{base}
+use Rattle.tmem.specs.Part.{loadOf, placeOf}
+use Rattle.tmem.proofs.Places.{first-wraps, Found, spots, start-within, split-word, whole-word, word-length}
 use borrow.Author.Needs.{needs}
 use Rattle.tmem.proofs.word.write_load_word.Statement.{statement}
 use Rattle.tmem.proofs.word.write_load_word.Tie as tie
 
 -- the word's numbers, once they are found
 found : (c : tie.After-first-halfword) → let a = c .before .before .before .before .before .before .args in
-    Found (loadOf (a .tile)) (a .s) (a .t) (c .before .before .column-halfword .result) (c .first-halfword .result) (a .t % 2 * 2)
+    Found (loadOf (a .tile)) (a .s) (a .t) (c .before .before .column-halfword .result .0) (c .first-halfword .result .0) (a .t % 2 * 2)
 found c =
+    let a = c .before .before .before .before .before .before .args in
+    let wraps = first-wraps (base (loadOf (a .tile)) (a .t)) (c .before .before .column-halfword .result .0) in
     record {
       half-is = c .before .before .column-halfword .ensures;
-      first-is = rw (← c .before .row-word .ensures) (c .first-halfword .ensures);
+      first-is = c .first-halfword .ensures ∙ rw (c .before .row-word .ensures) wraps;
       odd-is = refl;
     }
 
@@ -32,7 +35,7 @@ mul-odd c = omega (arith, spots (found c) .odd-in)
 
 write-split-word-requires : tie.Need-write-split-word-requires
 write-split-word-requires c κs =
-    let d = c .before .before .before .before .before .before in
+    let d = c .before .before .before .before .before .before .before in
     (d .before .before .before .before .before .before .pre .0, (spots (found d), (start-within (found d), omega arith)))
 
 same-length : tie.Need-same-length
@@ -44,8 +47,11 @@ same-length-2 c = search needs
 returns : tie.Need-returns
 returns c =
     let d = c .before .before .before .before in
-    let e = d .before .before .before in
-    (rw (← split-word (found (e .before .before .before .before)) _ (e .if1 .taken)) (d .write-split-word .ensures), sym (word-length _ _ _ _))
+    let e = d .before .before .before .before in
+    let f = e .before .before .before .before in
+    let a = f .before .before .before .before .before .before .args in
+    let is = split-word (found f) (placeOf (a .source) (a .replicate)) (e .if1 .taken) in
+    record { carried = rw (← is) (d .write-split-word .ensures); count-is = sym (word-length _ _ _ _) }
 
 write-whole-word-requires : tie.Need-write-whole-word-requires
 write-whole-word-requires c κs =
@@ -62,7 +68,10 @@ returns-2 : tie.Need-returns-2
 returns-2 c =
     let d = c .before .before .before .before in
     let e = d .before .before .before in
-    (rw (← whole-word (found (e .before .before .before .before)) _ (e .if1 .left)) (d .write-whole-word .ensures), sym (word-length _ _ _ _))
+    let f = e .before .before .before .before in
+    let a = f .before .before .before .before .before .before .args in
+    let is = whole-word (found f) (placeOf (a .source) (a .replicate)) (e .if1 .left) in
+    record { carried = rw (← is) (d .write-whole-word .ensures); count-is = sym (word-length _ _ _ _) }
 
 pub write-load-word-spec : {M : Type 1} → statement M
 write-load-word-spec =

@@ -1,6 +1,6 @@
 -- `tmem::word::write_split_word` carries out four stores at each of two places. Assumes nothing.
-use mathlib.Core.Path.{_≡_}
-use Prim.Native.Nat.{_+_, _-_, _%_, _<_, _≤_}
+use mathlib.Core.Path.{_≡_, _∙_}
+use Prim.Native.Nat.{_+_, _-_}
 use native.Mathlib.Omega.{arith}
 use lib.ListN.{getD}
 use Rattle.rules.specs.Load.{list4}
@@ -12,7 +12,7 @@ use Rattle.tmem.proofs.word.write_split_word.Tie as tie
 
 abbrev Inv-loop : tie.InvT-loop
 Inv-loop bank₀ written₀ src first odd start source replicate step i₀ bank written i =
-    Turn 2 (splitTurn step (list4 first odd) start (placeOf source replicate)) src bank₀ written₀ i bank written
+    Turn 2 (splitTurn step (list4 (first .0) odd) start (placeOf source replicate)) src bank₀ written₀ i bank written
 
 abbrev μ-loop : tie.MeasureT-loop
 μ-loop bank₀ written₀ src first odd start source replicate step i₀ bank written i = 2 - i
@@ -23,42 +23,55 @@ byte-step-requires c κs = tt
 loop-holds : tie.Need-loop-holds Inv-loop μ-loop
 loop-holds c = begin (c .before .before .before .before .pre .0)
 
-add-place-index : tie.Need-add-place-index Inv-loop μ-loop
-add-place-index c = omega arith
+add-place-halfword : tie.Need-add-place-halfword Inv-loop μ-loop
+add-place-halfword c = omega arith
 
-place-index-requires : tie.Need-place-index-requires Inv-loop μ-loop
-place-index-requires c κs = (c .before .before .before .before .before .before .pre .1 .0, omega arith)
+place-halfword-requires : tie.Need-place-halfword-requires Inv-loop μ-loop
+place-halfword-requires c κs = (c .before .before .before .before .before .before .pre .1 .0, omega arith)
 
-add-high : tie.Need-add-high Inv-loop μ-loop
-add-high c = omega arith
+lower-byte-requires : tie.Need-lower-byte-requires Inv-loop μ-loop
+lower-byte-requires c κs = c .place-halfword .ensures .1
 
-mul-k : tie.Need-mul-k Inv-loop μ-loop
-mul-k c = omega arith
+-- the place's address, found
+found : (c : tie.After-lower-byte Inv-loop μ-loop) → let l = c .before .before .before in
+    let a = l .before .before .before .before .before .args in
+    c .lower-byte .result .0 ≡ getD (list4 (a .first .0) (a .odd)) (a .start + l .loop .i) 0
+found c = c .lower-byte .ensures ∙ c .before .place-halfword .ensures .0
 
 add-store-pair : tie.Need-add-store-pair Inv-loop μ-loop
 add-store-pair c = omega arith
 
-store-pair-requires : tie.Need-store-pair-requires Inv-loop μ-loop
-store-pair-requires c κs =
-    let d = c .before .before in
-    (d .before .before .loop .inv .lent, ((omega arith, d .place-index .ensures .1 .1), (omega arith, (omega arith, omega arith))))
+mul-k : tie.Need-mul-k Inv-loop μ-loop
+mul-k c = omega arith
 
 add-store-pair-2 : tie.Need-add-store-pair-2 Inv-loop μ-loop
 add-store-pair-2 c = omega arith
 
-sub-store-pair : tie.Need-sub-store-pair Inv-loop μ-loop
-sub-store-pair c = omega arith
+store-pair-requires : tie.Need-store-pair-requires Inv-loop μ-loop
+store-pair-requires c κs =
+    let d = c .before .before .before in
+    (d .before .before .before .loop .inv .lent, ((omega arith, omega arith), (omega arith, (omega arith, omega arith))))
 
 add-store-pair-3 : tie.Need-add-store-pair-3 Inv-loop μ-loop
 add-store-pair-3 c = omega arith
 
+sub-store-pair : tie.Need-sub-store-pair Inv-loop μ-loop
+sub-store-pair c = omega arith
+
+add-store-pair-4 : tie.Need-add-store-pair-4 Inv-loop μ-loop
+add-store-pair-4 c = omega arith
+
 store-pair-requires-2 : tie.Need-store-pair-requires-2 Inv-loop μ-loop
 store-pair-requires-2 c κs =
     let s = c .before .before .before .before .before .before in
-    let p = s .before .before .before in
-    let found = p .place-index .ensures .1 in
-    let turn = p .before .loop-test .taken in
-    (still-lent (p .before .before .loop .inv .lent) (s .store-pair .ensures), ((omega (arith, found .0), omega (arith, found .1)), (p .before .before .before .before .before .before .before .pre .1 .1 .1, (omega (arith, turn), omega (arith, turn)))))
+    let d = s .before .before .before .before in
+    let low = d .lower-byte .ensures in
+    let l = d .before .before in
+    let turn = l .loop-test .taken in
+    let source-in = l .before .before .before .before .before .before .pre .1 .1 .1 in (
+      still-lent (l .before .loop .inv .lent) (s .store-pair .ensures),
+      ((omega (arith, low), omega (arith, low)), (source-in, (omega (arith, turn), omega (arith, turn)))),
+    )
 
 add-i : tie.Need-add-i Inv-loop μ-loop
 add-i c = omega arith
@@ -68,15 +81,15 @@ loop-less c = omega arith
 
 loop-again : tie.Need-loop-again Inv-loop μ-loop
 loop-again c =
-    let d = c .before .before .before .before in
-    let s = d .before .before .before .before .before .before .before in
-    let p = s .before .before .before in
-    let s₀ = p .before .before .before in
-    let a = s₀ .before .before .before .before .args in
-    let found = p .place-index .ensures in
-    next (p .before .before .loop .inv) (omega arith)
-    (split-turn (p .place-index .result) (s₀ .byte-step .result) (list4 (a .first) (a .odd)) (a .start) (placeOf (a .source) (a .replicate)) (p .before .before .loop .i) (found .0) (found .1 .1)
-    (after (s .store-pair .ensures) (d .store-pair2 .ensures)))
+    let t = c .before .before .before .before in
+    let s = t .before .before .before .before .before .before .before in
+    let d = s .before .before .before .before in
+    let l = d .before .before .before in
+    let a = l .before .before .before .before .before .args in
+    next (l .loop .inv) (d .before .before .loop-test .taken)
+    (split-turn (d .lower-byte .result .0) (l .before .byte-step .result) (list4 (a .first .0) (a .odd)) (a .start)
+    (placeOf (a .source) (a .replicate)) (l .loop .i) (found d) (omega (arith, d .lower-byte .ensures))
+    (after (s .store-pair .ensures) (t .store-pair2 .ensures)))
 
 same-length : tie.Need-same-length Inv-loop μ-loop
 same-length c = omega arith
@@ -88,8 +101,8 @@ returns : tie.Need-returns Inv-loop μ-loop
 returns c =
     let s = c .before .before in
     let a = s .before .before .before .before .args in
-    rw (← split-is (loadOf (a .tile)) (list4 (a .first) (a .odd)) (a .start) (placeOf (a .source) (a .replicate)), ← s .byte-step .ensures .0)
-    (finish (c .before .loop .inv) (omega arith))
+    let is = split-is (loadOf (a .tile)) (list4 (a .first .0) (a .odd)) (a .start) (placeOf (a .source) (a .replicate)) in
+    rw (← is, ← s .byte-step .ensures .0) (finish (c .before .loop .inv) (omega arith))
 
 pub write-split-word-spec : {M : Type 1} → statement M
 write-split-word-spec =
@@ -99,15 +112,16 @@ write-split-word-spec =
     μ-loop
     byte-step-requires
     loop-holds
-    add-place-index
-    place-index-requires
-    add-high
-    mul-k
+    add-place-halfword
+    place-halfword-requires
+    lower-byte-requires
     add-store-pair
-    store-pair-requires
+    mul-k
     add-store-pair-2
-    sub-store-pair
+    store-pair-requires
     add-store-pair-3
+    sub-store-pair
+    add-store-pair-4
     store-pair-requires-2
     add-i
     loop-less

@@ -1,8 +1,8 @@
 -- `tmem::word::write_whole_word` carries out two stores at each of the four places. Assumes nothing.
-use Prim.Native.Nat.{_-_, _<_, _≤_}
+use Prim.Native.Nat.{_-_, _<_}
 use native.Mathlib.Omega.{arith}
-use lib.Bits.{bitAnd, bitXor, and-le-r, xor-lt}
-use Rattle.rules.specs.Load.{list4, wholeStores}
+use lib.Bits.{bitXor, xor-lt}
+use Rattle.rules.specs.Load.{list4, upper, wholeStores}
 use Rattle.tmem.specs.Part.{placeOf}
 use Rattle.tmem.proofs.Carry.{Turn, begin, next, finish}
 use Rattle.tmem.proofs.Places.{wholeTurn}
@@ -10,45 +10,49 @@ use Rattle.tmem.proofs.word.write_whole_word.Statement.{statement}
 use Rattle.tmem.proofs.word.write_whole_word.Tie as tie
 
 abbrev Inv-loop : tie.InvT-loop
-Inv-loop bank₀ written₀ src first odd source replicate high k₀ bank written k =
-    Turn 4 (wholeTurn (list4 first odd) high odd (placeOf source replicate)) src bank₀ written₀ k bank written
+Inv-loop bank₀ written₀ src first odd source replicate k₀ bank written k =
+    Turn 4 (wholeTurn (list4 (first .0) odd) (upper (first .0)) odd (placeOf source replicate)) src bank₀ written₀ k bank written
 
 abbrev μ-loop : tie.MeasureT-loop
-μ-loop bank₀ written₀ src first odd source replicate high k₀ bank written k = 4 - k
+μ-loop bank₀ written₀ src first odd source replicate k₀ bank written k = 4 - k
 
--- the upper half's bit, and byte 2 (k xor o) of the word
-half-within : (c : tie.In-loop Inv-loop μ-loop) → bitAnd (c .before .before .before .before .before .args .first) 1024 ≤ 1024
-half-within c = and-le-r (c .before .before .before .before .before .args .first) 1024
-
-byte-within : (c : tie.In-loop Inv-loop μ-loop) → bitXor (c .before .loop .k) (c .before .before .before .before .before .args .odd) < 4
+-- byte 2 (k xor o) is one of the word
+byte-within : (c : tie.In-loop Inv-loop μ-loop)
+    → bitXor (c .before .loop .k) (c .before .before .before .before .before .args .odd) < 4
 byte-within c =
     let s = c .before .before .before .before .before in
     xor-lt 2 (c .before .loop .k) (s .args .odd) (omega arith) (omega (arith, s .pre .1 .0 .odd-in))
 
-mul-high : tie.Need-mul-high Inv-loop μ-loop
-mul-high c = omega (arith, and-le-r (c .before .before .before .args .first) 1024)
-
 loop-holds : tie.Need-loop-holds Inv-loop μ-loop
 loop-holds c = begin (c .before .before .before .pre .0)
 
-place-index-requires : tie.Need-place-index-requires Inv-loop μ-loop
-place-index-requires c κs = (c .before .before .before .before .before .pre .1 .0, omega arith)
+place-halfword-requires : tie.Need-place-halfword-requires Inv-loop μ-loop
+place-halfword-requires c κs = (c .before .before .before .before .before .pre .1 .0, omega arith)
 
-add-address : tie.Need-add-address Inv-loop μ-loop
-add-address c = omega (arith, c .place-index .ensures .1 .0, half-within (c .before))
+lower-byte-requires : tie.Need-lower-byte-requires Inv-loop μ-loop
+lower-byte-requires c κs = c .place-halfword .ensures .1
+
+half-start-requires : tie.Need-half-start-requires Inv-loop μ-loop
+half-start-requires c κs = tt
+
+add-byte : tie.Need-add-byte Inv-loop μ-loop
+add-byte c = omega arith
 
 mul-byte : tie.Need-mul-byte Inv-loop μ-loop
-mul-byte c = omega (arith, byte-within (c .before))
+mul-byte c = omega (arith, byte-within (c .before .before .before .before .before))
 
 add-store-pair : tie.Need-add-store-pair Inv-loop μ-loop
-add-store-pair c = omega (arith, byte-within (c .before .before .before))
+add-store-pair c = omega (arith, byte-within (c .before .before .before .before .before .before .before))
 
 store-pair-requires : tie.Need-store-pair-requires Inv-loop μ-loop
 store-pair-requires c κs =
-    let p = c .before .before in
-    let found = p .place-index .ensures .1 in
-    let l = p .before in
-    (l .before .loop .inv .lent, ((omega (arith, found .0, half-within l), omega (arith, found .1)), (omega arith, (omega (arith, byte-within l), omega (arith, byte-within l)))))
+    let h = c .before .before .before .before in
+    let l = h .before .before .before in
+    let low = h .before .lower-byte .ensures in
+    let half = h .half-start .ensures in (
+      l .before .loop .inv .lent,
+      ((omega (arith, low, half), omega (arith, low, half)), (omega arith, (omega (arith, byte-within l), omega (arith, byte-within l)))),
+    )
 
 add-k : tie.Need-add-k Inv-loop μ-loop
 add-k c = omega arith
@@ -59,8 +63,11 @@ loop-less c = omega arith
 loop-again : tie.Need-loop-again Inv-loop μ-loop
 loop-again c =
     let d = c .before .before .before .before in
-    let p = d .before .before .before in
-    next (p .before .before .loop .inv) (omega arith) (rw (p .place-index .ensures .0) at (d .store-pair .ensures))
+    let h = d .before .before .before .before .before in
+    let p = h .before .before in
+    let l = p .before in
+    next (l .before .loop .inv) (l .loop-test .taken)
+    (rw (h .before .lower-byte .ensures, p .place-halfword .ensures .0, h .half-start .ensures .0) at (d .store-pair .ensures))
 
 same-length : tie.Need-same-length Inv-loop μ-loop
 same-length c = omega arith
@@ -78,10 +85,11 @@ write-whole-word-spec =
     (tie.spec
     Inv-loop
     μ-loop
-    mul-high
     loop-holds
-    place-index-requires
-    add-address
+    place-halfword-requires
+    lower-byte-requires
+    half-start-requires
+    add-byte
     mul-byte
     add-store-pair
     store-pair-requires

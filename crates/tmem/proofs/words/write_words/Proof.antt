@@ -1,16 +1,17 @@
 -- `tmem::words::write_words` carries out the words of a run, one after the other. Assumes nothing.
-use Prim.Native.Nat.{_+_, _-_, _*_, _<_, _≤_}
+use mathlib.Core.Path.{_∙_}
+use Prim.Native.Nat.{_-_, _<_}
 use native.Mathlib.Omega.{arith}
 use Rattle.tmem.specs.Part.{loadOf}
 use Rattle.tmem.specs.Run.{runWord, runStores}
-use Rattle.tmem.proofs.Carry.{Counted, begin-count, next-count, finish-count, count-within}
+use Rattle.tmem.proofs.Carry.{Counting, begin-count, next-count, finish-count, count-within}
 use Rattle.tmem.proofs.Places.{word-length}
 use Rattle.tmem.proofs.words.write_words.Statement.{statement}
 use Rattle.tmem.proofs.words.write_words.Tie as tie
 
 abbrev Inv-loop : tie.InvT-loop
 Inv-loop bank₀ written₀ src tile run words count₀ word₀ bank written count word =
-    Counted words (runWord (loadOf tile) run) src bank₀ written₀ word bank written count
+    Counting words (runWord (loadOf tile) run) src bank₀ written₀ word bank written count
 
 abbrev μ-loop : tie.MeasureT-loop
 μ-loop bank₀ written₀ src tile run words count₀ word₀ bank written count word = words - word
@@ -18,27 +19,24 @@ abbrev μ-loop : tie.MeasureT-loop
 word-below : (c : tie.In-loop Inv-loop μ-loop) → c .before .loop .word < 2048
 word-below c = omega (arith, c .before .before .before .before .before)
 
-count-fits : (c : tie.In-loop Inv-loop μ-loop) → c .before .loop .count + 8 ≤ 2048 * 8
-count-fits c =
-    let s = c .before .before .before .before .before in
-    count-within 8 2048 8 (λ w. word-length _ _ _ _) (s .pre .1 .1 .1) (omega arith) (c .before .loop .inv) (c .loop-test .taken)
-
 loop-holds : tie.Need-loop-holds Inv-loop μ-loop
 loop-holds c = begin-count (c .before .before .before .pre .0)
 
 word-requires : tie.Need-word-requires Inv-loop μ-loop
-word-requires c κs = (c .before .before .before .before .before .pre .1 .1 .0, omega (arith, word-below c))
+word-requires c κs = (c .before .before .before .before .before .pre .1 .0, omega (arith, word-below c))
 
 write-load-word-requires : tie.Need-write-load-word-requires Inv-loop μ-loop
 write-load-word-requires c κs =
     let e = c .before .before in
     let d = e .before in
-    (d .before .loop .inv .turn .lent, (d .before .before .before .before .before .pre .1 .0, e .word .ensures .1))
+    (d .before .loop .inv .turn .lent, e .word .ensures .1)
 
 add-count : tie.Need-add-count Inv-loop μ-loop
 add-count c =
     let d = c .before .before .before .before in
-    omega (arith, count-fits (d .before .before .before .before), rw word-length at (d .write-load-word .ensures .1))
+    let l = d .before .before .before .before in
+    let few = count-within 8 2048 8 (λ w. word-length _ _ _ _) (l .before .before .before .before .before .pre .1 .1) (omega arith) in
+    omega (arith, few (l .before .loop .inv) (l .loop-test .taken) (d .write-load-word .ensures .count-is ∙ word-length _ _ _ _))
 
 add-word : tie.Need-add-word Inv-loop μ-loop
 add-word c = let d = c .before .before .before .before in omega (arith, word-below (d .before .before .before .before))
@@ -51,8 +49,7 @@ loop-again c =
     let d = c .before .before .before .before in
     let e = d .before .before .before in
     let l = e .before in
-    let done = rw (e .word .ensures .0) at (d .write-load-word .ensures) in
-    next-count (l .before .loop .inv) (l .loop-test .taken) (done .0) (done .1)
+    next-count (l .before .loop .inv) (l .loop-test .taken) (rw (e .word .ensures .0) at (d .write-load-word .ensures))
 
 same-length : tie.Need-same-length Inv-loop μ-loop
 same-length c = omega arith

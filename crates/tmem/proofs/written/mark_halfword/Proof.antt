@@ -20,9 +20,7 @@ same-length : tie.Need-same-length
 same-length c = search needs
 
 returns : tie.Need-returns
-returns c =
-    let a = c .before .args in
-    halfword-marked (a .map .now) (a .at) (c .before .pre .0) (c .before .pre .1)
+returns c = halfword-marked (c .before .args .map .now) (c .before .args .at) (c .before .pre .1)
 
 pub mark-halfword-spec : {M : Type 1} → statement M
 mark-halfword-spec = tie.close (tie.spec slice-read-map cast-map shl-map slice-write-map same-length returns)

@@ -1,8 +1,9 @@
 -- `reach::span::Span::bits`: the bits of a word's bytes, all or every second one. Assumes nothing.
+use mathlib.Core.Bool.{true, false}
 use native.Mathlib.Omega.{arith}
 use borrow.Author.Needs.{needs}
 use Rattle.reach.specs.Span.{bitsIn}
-use Rattle.reach.proofs.Spans.{all-bits, even-bits}
+use Rattle.reach.proofs.Spans.{bits-placed}
 use Rattle.reach.proofs.span.Span.bits.Statement.{statement}
 use Rattle.reach.proofs.span.Span.bits.Tie as tie
 
@@ -22,13 +23,15 @@ returns : tie.Need-returns
 unfolding bitsIn
 returns c =
     let d = c .before in
-    rw (c .if1 .taken, d .in-halves .ensures, d .before .first-bits .ensures) (even-bits (d .before .before .before .args .self .odd) _ (omega arith))
+    let s = d .before .before .before .args .self in
+    rw (c .if1 .taken, d .in-halves .ensures, d .before .first-bits .ensures) (bits-placed true (s .odd) _ (omega arith))
 
 returns-2 : tie.Need-returns-2
 unfolding bitsIn
 returns-2 c =
     let d = c .before in
-    rw (c .if1 .left, d .in-halves .ensures, d .before .first-bits .ensures) (all-bits (d .before .before .before .args .self .odd) _ (omega arith))
+    let s = d .before .before .before .args .self in
+    rw (c .if1 .left, d .in-halves .ensures, d .before .first-bits .ensures) (bits-placed false (s .odd) _ (omega arith))
 
 pub bits-spec : {M : Type 1} → statement M
 bits-spec =

@@ -11,13 +11,14 @@ is-rgba32-requires c κs = search needs
 bank-words-requires : tie.Need-bank-words-requires
 bank-words-requires c κs = search needs
 
-mul-t7 : tie.Need-mul-t7
-mul-t7 c = search needs
+mul-t8 : tie.Need-mul-t8
+mul-t8 c = search needs
 
 returns : tie.Need-returns
 returns c =
-    let a = c .before .before .args in
-    rw (c .bank-words .ensures .0, c .before .is-rgba32 .ensures, bank-bytes) (whole-reached (tileOf (a .tile)) (a .tlut), whole-bounds (tileOf (a .tile)) (a .tlut))
+    let t = tileOf (c .before .before .args .tile) in
+    let mode = c .before .before .args .tlut in
+    rw (c .bank-words .ensures .0, c .before .is-rgba32 .ensures, bank-bytes) (whole-reached t mode, whole-bounds t mode)
 
 pub whole-spec : {M : Type 1} → statement M
-whole-spec = tie.close (tie.spec is-rgba32-requires bank-words-requires mul-t7 returns)
+whole-spec = tie.close (tie.spec is-rgba32-requires bank-words-requires mul-t8 returns)

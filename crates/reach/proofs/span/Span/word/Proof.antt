@@ -7,6 +7,9 @@ use Rattle.reach.proofs.Spans.{wrapped-lt}
 use Rattle.reach.proofs.span.Span.word.Statement.{statement}
 use Rattle.reach.proofs.span.Span.word.Tie as tie
 
+cast-result : tie.Need-cast-result
+cast-result c = search needs
+
 add-result : tie.Need-add-result
 add-result c = search needs
 
@@ -18,9 +21,10 @@ rem-result c = search needs
 
 returns : tie.Need-returns
 returns c =
-    let s = c .before .before .args .self in
+    let d = c .before .before in
+    let s = d .args .self in
     rw (c .bank-words .ensures .0)
-    (refl, (wrapped-lt (s .low) (s .first + c .before .before .args .w), λ h. rw (c .before .before .pre .0 .twice h) (omega arith)))
+    (refl, (wrapped-lt (s .low) (s .first .0 + d .args .w), λ h. rw (d .pre .0 .twice h) (omega arith)))
 
 pub word-spec : {M : Type 1} → statement M
-word-spec = tie.close (tie.spec add-result bank-words-requires rem-result returns)
+word-spec = tie.close (tie.spec cast-result add-result bank-words-requires rem-result returns)

@@ -1,3 +1,0 @@
--- Laws that the proofs of this crate cite.
-pub mod Turned
-pub mod Lanes

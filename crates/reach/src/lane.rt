@@ -1,0 +1,128 @@
+// The lane check: which slots of the palette do not have one pair of bytes four times.
+ghost use mathlib.Core.List.{[], _∷_};
+ghost use mathlib.Core.Path.{_≡_};
+ghost use Prim.Native.Nat.{_<_};
+ghost use lib.ListN.{length};
+ghost use Rattle.rules.specs.Calls.{laneTests, laneCall};
+ghost use Rattle.rules.specs.Reach.{uneven, laneMap};
+ghost use Rattle.rules.specs.Refusal.{first};
+ghost use Rattle.rules.specs.Tile.{bankSize, laneMapSize};
+ghost use Rattle.rdp.specs.View.{refusalAnswered};
+ghost use Rattle.reach.specs.Slots.{pairs, pairNumber, slotNumber, slotBit, slotsByte};
+use rdp::refusal;
+use tmem::bank::Bank;
+
+// The bytes of a lane map: a bit for each slot, and a slot is eight bytes of the palette.
+const MAP_SIZE: usize = (Bank::SIZE - Bank::PALETTE_BASE) / 64;
+
+// What the second pair of a slot counts in its number, where the first counts 1.
+const SECOND: u64 = 0x1_0000;
+
+// The third.
+const THIRD: u64 = 0x1_0000_0000;
+
+// The fourth.
+const FOURTH: u64 = 0x1_0000_0000_0000;
+
+// A byte as a number that can be multiplied.
+fn wide(byte: u8) -> u64
+    ensures { λ r. ⌜ r ≡ byte ⌝ }
+    ensures { λ r. ⌜ r < 256 ⌝ }
+{
+    byte as u64
+}
+
+// Pair p of slot j as one number, its first byte lowest.
+fn pair(bank: &[u8], j: usize, p: usize) -> u64
+    requires { ⌜ length (now bank) ≡ bankSize ⌝ }
+    requires { ⌜ (j < 256) × (p < 4) ⌝ }
+    ensures { λ r. ⌜ r ≡ pairNumber (now (bank .entry)) j p ⌝ }
+    ensures { λ r. ⌜ r < pairs ⌝ }
+{
+    let at = Bank::PALETTE_BASE + 8 * j + 2 * p;
+    wide(bank[at]) + 256 * wide(bank[at + 1])
+}
+
+// Slot j as one number, its first pair lowest.
+fn slot(bank: &[u8], j: usize) -> u64
+    requires { ⌜ length (now bank) ≡ bankSize ⌝ }
+    requires { ⌜ j < 256 ⌝ }
+    ensures { λ r. ⌜ r ≡ slotNumber (now (bank .entry)) j ⌝ }
+{
+    pair(bank, j, 0)
+        + SECOND * pair(bank, j, 1)
+        + THIRD * pair(bank, j, 2)
+        + FOURTH * pair(bank, j, 3)
+}
+
+// Its pairs are not all one: turned by a pair, it is another number.
+fn slot_uneven(bank: &[u8], j: usize) -> bool
+    requires { ⌜ length (now bank) ≡ bankSize ⌝ }
+    requires { ⌜ j < 256 ⌝ }
+    ensures { λ r. ⌜ r ≡ uneven (now (bank .entry)) j ⌝ }
+{
+    let all = slot(bank, j);
+    all / SECOND + FOURTH * (all % SECOND) != all
+}
+
+// The slot's bit in its byte of the lane map, where it is uneven.
+fn slot_bit(bank: &[u8], j: usize) -> u8
+    requires { ⌜ length (now bank) ≡ bankSize ⌝ }
+    requires { ⌜ j < 256 ⌝ }
+    ensures { λ r. ⌜ r ≡ slotBit (now (bank .entry)) j ⌝ }
+{
+    if slot_uneven(bank, j) {
+        1u8 << j % 8
+    } else {
+        0
+    }
+}
+
+// Byte i of the lane map: a bit for each of eight slots.
+fn slots_byte(bank: &[u8], i: usize) -> u8
+    requires { ⌜ length (now bank) ≡ bankSize ⌝ }
+    requires { ⌜ i < laneMapSize ⌝ }
+    ensures { λ r. ⌜ r ≡ slotsByte (now (bank .entry)) i ⌝ }
+{
+    let mut bits = 0u8;
+    for k in 0..8 {
+        bits = bits | slot_bit(bank, 8 * i + k);
+    }
+    bits
+}
+
+// Every byte of the map is written.
+fn write_lanes(bank: &[u8], map: &mut [u8])
+    requires { ⌜ length (now bank) ≡ bankSize ⌝ }
+    requires { ⌜ length (now map) ≡ laneMapSize ⌝ }
+    ensures { λ _. ⌜ now (map .exit) ≡ laneMap (now (bank .entry)) ⌝ }
+{
+    for i in 0..MAP_SIZE {
+        map[i] = slots_byte(bank, i);
+    }
+}
+
+// The refusal of the lane check: a bank or a map of another length.
+fn lane_refusal(bank: &[u8], map: &[u8]) -> u32
+    ensures { λ r. ⌜ r ≡ first (laneTests (now (bank .entry)) (now (map .entry))) ⌝ }
+{
+    if bank.len() != Bank::SIZE {
+        return refusal::LENGTH;
+    }
+    if map.len() != MAP_SIZE {
+        return refusal::LENGTH;
+    }
+    0
+}
+
+// The lane map of a bank, overwritten whole, or the refusal with the map as it was lent.
+pub fn palette_nonreplicated_bytes(bank: &[u8], map: &mut [u8]) -> u32
+    ensures { λ r. ⌜ refusalAnswered r (now (map .exit) ∷ []) ≡ laneCall (now (bank .entry)) (now (map .entry)) ⌝ }
+{
+    let no = lane_refusal(bank, map);
+    if no != 0 {
+        return no;
+    }
+    write_lanes(bank, map);
+    0
+}

@@ -1,0 +1,25 @@
+-- `tmem::asked::Asked::outside` goes by the rule's test of each load. Assumes nothing.
+use borrow.Author.Needs.{needs}
+use Rattle.tmem.proofs.asked.Asked.outside.Statement.{statement}
+use Rattle.tmem.proofs.asked.Asked.outside.Tie as tie
+
+enum-known-self : tie.Need-enum-known-self
+enum-known-self c = search needs
+
+enum-known-self-2 : tie.Need-enum-known-self-2
+enum-known-self-2 c = search needs
+
+enum-known-self-3 : tie.Need-enum-known-self-3
+enum-known-self-3 c = search needs
+
+returns : tie.Need-returns
+returns c = rw (c .before .self .given .1)
+
+returns-2 : tie.Need-returns-2
+returns-2 c = rw (c .before .self2 .given .1)
+
+returns-3 : tie.Need-returns-3
+returns-3 c = rw (c .before .self3 .given .1)
+
+pub outside-spec : {M : Type 1} → statement M
+outside-spec = tie.close (tie.spec enum-known-self enum-known-self-2 enum-known-self-3 returns returns-2 returns-3)

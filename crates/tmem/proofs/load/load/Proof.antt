@@ -1,0 +1,70 @@
+-- `tmem::load::load` refuses, or carries out what is asked. Assumes nothing.
+use mathlib.Core.Path.{_≡_, sym, _∙_}
+use mathlib.Core.List.{[], _∷_}
+use borrow.Author.Needs.{needs}
+use Rattle.rules.specs.Refusal.{first}
+use Rattle.rules.specs.Calls.{loadTests}
+use Rattle.rules.proofs.Refused.{refused-is, done-is}
+use Rattle.rdp.specs.View.{tileOf}
+use Rattle.tmem.specs.Asked.{askedOutside}
+use Rattle.tmem.proofs.Within.{within}
+use Rattle.tmem.proofs.load.load.Statement.{statement}
+use Rattle.tmem.proofs.load.load.Tie as tie
+
+load-refusal-requires : tie.Need-load-refusal-requires
+load-refusal-requires c κs = search needs
+
+same-length : tie.Need-same-length
+same-length c = search needs
+
+same-length-2 : tie.Need-same-length-2
+same-length-2 c = search needs
+
+returns : tie.Need-returns
+returns c = refused-is _ _ _ _ _ (c .before .load-refusal .ensures) (c .if1 .taken)
+
+-- no test failed
+passes : (c : tie.Else1) → let a = c .before .before .before .before .before .before .before .args in
+    first (loadTests (a .bank .now) (a .written .now) (a .src .now) (tileOf (a .tile)) (a .image-siz) (askedOutside (a .asked))) ≡ 0
+passes c = sym (c .before .load-refusal .ensures) ∙ c .if1 .left
+
+load-fields-requires : tie.Need-load-fields-requires
+load-fields-requires c κs = search needs
+
+write-requires : tie.Need-write-requires
+write-requires c κs =
+    let e = c .before .before .before in
+    let a = e .before .before .before .before .before .before .before .args in
+    let w = within (a .bank .now) (a .written .now) (a .src .now) (tileOf (a .tile)) (a .image-siz) (askedOutside (a .asked)) (passes e) in
+    (w .lent, (w .image-in, w .inside))
+
+same-length-3 : tie.Need-same-length-3
+same-length-3 c = search needs
+
+same-length-4 : tie.Need-same-length-4
+same-length-4 c = search needs
+
+returns-2 : tie.Need-returns-2
+returns-2 c =
+    let d = c .before .before .before .before in
+    let done = rw (d .before .load-fields .ensures) at (d .write .ensures) in
+    (λ i. record {
+      refusal = 0;
+      numbers = done .count-is i ∷ [];
+      buffers = done .carried .bank-is i ∷ done .carried .map-is i ∷ [];
+    })
+    ∙ done-is _ _ _ _ (passes (d .before .before .before .before))
+
+pub load-spec : {M : Type 1} → statement M
+load-spec =
+    tie.close
+    (tie.spec
+    load-refusal-requires
+    same-length
+    same-length-2
+    returns
+    load-fields-requires
+    write-requires
+    same-length-3
+    same-length-4
+    returns-2)

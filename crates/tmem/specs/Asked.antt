@@ -1,0 +1,27 @@
+-- The three loads as one, by what is asked: it only names what the rules say of each.
+use mathlib.Core.Bool.{Bool}
+use mathlib.Core.List.{List}
+use Prim.Native.Nat.{ℕ}
+use Rattle.rules.specs.Tile.{Tile}
+use Rattle.rules.specs.Refusal.{Outcome}
+use Rattle.rules.specs.Load.{Store, LoadTile, loadTile, blockStores, tileStores, tlutStores}
+use Rattle.rules.specs.Calls.{blockOutside, tileLoadOutside, tlutOutside, loadTests, loaded}
+use Rattle.tmem.specs.declared.asked.Asked.{Asked}
+use Rattle.tmem.specs.declared.asked.Asked.the-variants.{Block, Tile as TileLoad, Tlut}
+
+-- a number is outside its range
+abbrev pub askedOutside : Asked → Bool
+askedOutside (Block dxt words) = blockOutside dxt words
+askedOutside (TileLoad rows words stride) = tileLoadOutside rows words stride
+askedOutside (Tlut count rows stride) = tlutOutside count rows stride
+
+-- the stores, in order
+abbrev pub askedStores : LoadTile → ℕ → Asked → List Store
+askedStores t image (Block dxt words) = blockStores t image dxt words
+askedStores t image (TileLoad rows words stride) = tileStores t image rows words stride
+askedStores t image (Tlut count rows stride) = tlutStores t image count rows stride
+
+-- the call
+abbrev pub askedCall : List ℕ → List ℕ → List ℕ → Tile → ℕ → Asked → Outcome
+askedCall bank map src t image asked =
+    loaded (loadTests bank map src t image (askedOutside asked)) (askedStores (loadTile t) image asked) bank map src
