@@ -4,8 +4,8 @@ use crate::buffers;
 use crate::line;
 use crate::line::OWN;
 use crate::show;
-use reach::lane;
 use rdp::tile::TileDescriptor;
+use reach::lane;
 
 // The own column of `m`, that of `w`, and those of `l`: the bytes of bank and map, and where the bank has another byte.
 const MAP: usize = OWN;
