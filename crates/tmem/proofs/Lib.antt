@@ -4,6 +4,7 @@ pub mod Again
 pub mod Halfwords
 pub mod Carry
 pub mod Indices
+pub mod One
 pub mod Places
 pub mod Rows
 pub mod Runs
