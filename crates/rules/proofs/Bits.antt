@@ -10,7 +10,7 @@ use lib.ListN.{getD, set}
 abbrev Together : ℕ → Type 0
 Together a = (b c : ℕ) → bitOr (bitOr a b) c ≡ bitOr a (bitOr b c)
 
-pub or-assoc : (a b c : ℕ) → bitOr (bitOr a b) c ≡ bitOr a (bitOr b c)
+or-assoc : (a b c : ℕ) → bitOr (bitOr a b) c ≡ bitOr a (bitOr b c)
 or-assoc = bin-ind Together (λ b c. rw (or-zero-l b, or-zero-l (bitOr b c))) step
   where
     step : (n : ℕ) → Together (n / 2) → Together n

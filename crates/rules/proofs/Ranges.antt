@@ -17,7 +17,8 @@ abbrev None : List Bool → Type 0
 None [] = Unit {0}
 None (a ∷ l) = (a ≡ false) × None l
 
-neither : (a b : Bool) → (a || b) ≡ false → (a ≡ false) × (b ≡ false)
+-- of an either that does not hold, neither does
+pub neither : (a b : Bool) → (a || b) ≡ false → (a ≡ false) × (b ≡ false)
 neither true b h = absurd (true≢false h)
 neither false b h = (refl, h)
 

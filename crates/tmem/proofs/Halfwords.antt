@@ -22,4 +22,4 @@ unfolding marked
 halfword-marked m a e =
     let byte : (a + 1) / 8 ≡ a / 8 = omega arith in
     let bit : (a + 1) % 8 ≡ a % 8 + 1 = omega arith in
-    rw (byte, bit, more-bits m (a / 8) (2 ^ (a % 8)) (2 ^ (a % 8 + 1)), two-bits (a % 8) (omega arith) (omega arith))
+    rw (byte, bit, more-bits, two-bits (a % 8) (omega arith) (omega arith))

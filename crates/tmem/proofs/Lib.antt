@@ -1,11 +1,11 @@
 -- Laws of the written marks; of stores and of their places, of a word load, of runs of words, and of rows of entries; what a load that
--- is not refused may count on, and the loads as runs of words.
+-- is not refused may count on, and the loads as runs of words; the theorems of one answer.
 pub mod Again
 pub mod Halfwords
 pub mod Carry
 pub mod Indices
-pub mod One
 pub mod Places
 pub mod Rows
 pub mod Runs
 pub mod Within
+pub mod One

@@ -9,13 +9,9 @@ use borrow.Author.Tests.{ltb-false, not-false, eqb-true}
 use Rattle.rules.specs.Tile.{Tile}
 use Rattle.rules.specs.Refusal.{first}
 use Rattle.rules.specs.Calls.{loadTests, blockOutside, tileLoadOutside, tlutOutside}
+use Rattle.rules.proofs.Ranges.{neither}
 use Rattle.rules.proofs.Refused.{Passed, numbered, passed}
 use Rattle.tmem.specs.Part.{Lent}
-
--- of an either that does not hold, neither does
-neither : (a b : Bool) → (a || b) ≡ false → (a ≡ false) × (b ≡ false)
-neither true b h = absurd (true≢false h)
-neither false b h = (refl, h)
 
 -- what the tests leave that all loads share
 pub record Within (bank map : List ℕ) (image : ℕ) (outside : Bool) : Type 0 where
