@@ -50,10 +50,7 @@ back xs at ys = take at xs ++ (ys ++ drop (length xs - at) (drop at xs))
 
 -- the part comes back with v over its front
 pub over-lent : (v xs ys : List ℕ) (at : ℕ) → at ≤ length xs → ys ≡ over v (lent xs at) → back xs at ys ≡ over (take at xs ++ v) xs
-unfolding over
-over-lent v xs ys at h e =
-    let n : length (take at xs) ≡ at = length-take-le at xs h in
-    over-back (take at xs) v xs xs ys at (sym (rw (n, take-append-drop))) n e
+over-lent v xs ys at h e = let w = wrote-start xs at h in over-back (take at xs) v xs xs ys at (w .is) (sym (w .end)) e
 
 -- what was written over a buffer that kept its length had room in it
 pub over-within : (v old xs : List ℕ) → xs ≡ over v old → length xs ≡ length old → length v ≤ length old
