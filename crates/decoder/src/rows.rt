@@ -77,12 +77,13 @@ fn decode_row(
     plan: Plan,
     kind: u32,
     observe: bool,
+    step: usize,
     row: Row,
     out: &mut [u8],
     seen: &mut [u8],
 )
     requires { ⌜ Ready (now bank) (now table) plan kind ⌝ }
-    requires { ⌜ observe ≡ plan .observe ⌝ }
+    requires { ⌜ (observe ≡ plan .observe) × (step ≡ plan .step) ⌝ }
     requires { ⌜ RowBounds row ⌝ }
     requires { ⌜ 4 * plan .width ≤ length (now out) ⌝ }
     requires { ⌜ plan .step * plan .width ≤ length (now seen) ⌝ }
@@ -90,7 +91,6 @@ fn decode_row(
     ensures { λ _. ⌜ now (seen .exit) ≡ over (told (plan .observe) (trail (oneRow plan row) (now (bank .entry)))) (now (seen .entry)) ⌝ }
 {
     let width = plan.width;
-    let step = plan.step;
     for i in 0..width {
         let o = 4 * i;
         let s = step * i;
@@ -108,7 +108,8 @@ fn decode_row(
     }
 }
 
-// A row, observed or not. Each is named, and so is the kind by the callers: the compiler makes a loop for each.
+// A row, observed or not. Each is named, with the trail's step, and the callers name the kind: so the compiler makes a loop for
+// each, and joins no two of them.
 fn decode_named_row(
     bank: &[u8],
     table: &[u32; 256],
@@ -127,10 +128,10 @@ fn decode_named_row(
         ≡ over (told (plan .observe) (trail (oneRow plan row) (now (bank .entry)))) (now (seen .entry)) ⌝ }
 {
     if plan.observe {
-        decode_row(bank, table, plan, kind, true, row, out, seen);
+        decode_row(bank, table, plan, kind, true, plan.step, row, out, seen);
         return;
     }
-    decode_row(bank, table, plan, kind, false, row, out, seen);
+    decode_row(bank, table, plan, kind, false, 0, row, out, seen);
 }
 
 // A row through the lookup table.

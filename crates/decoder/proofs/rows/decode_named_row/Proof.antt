@@ -1,5 +1,5 @@
 -- `decoder::rows::decode_named_row` is the row of its kind, observed as its plan says. Assumes nothing.
-use mathlib.Core.Path.{sym}
+use mathlib.Core.Path.{refl, sym}
 use borrow.Author.Needs.{needs}
 use Rattle.decoder.proofs.rows.decode_named_row.Statement.{statement}
 use Rattle.decoder.proofs.rows.decode_named_row.Tie as tie
@@ -7,7 +7,7 @@ use Rattle.decoder.proofs.rows.decode_named_row.Tie as tie
 decode-row-requires : tie.Need-decode-row-requires
 decode-row-requires c κs =
     let s = c .before .before .before .before .before .before in
-    (s .pre .0, (sym (c .before .before .if1 .taken), s .pre .1))
+    (s .pre .0, ((sym (c .before .before .if1 .taken), refl), s .pre .1))
 
 same-length : tie.Need-same-length
 same-length c = search needs
@@ -21,7 +21,8 @@ returns c = search needs
 decode-row-requires-2 : tie.Need-decode-row-requires-2
 decode-row-requires-2 c κs =
     let s = c .before .before .before .before .before .before in
-    (s .pre .0, (sym (c .before .before .if1 .left), s .pre .1))
+    let alone = c .before .before .if1 .left in
+    (s .pre .0, ((sym alone, sym (rw alone at (s .pre .0 .step))), s .pre .1))
 
 same-length-3 : tie.Need-same-length-3
 same-length-3 c = search needs

@@ -12,7 +12,7 @@ use Rattle.decoder.proofs.rows.decode_row.Statement.{statement}
 use Rattle.decoder.proofs.rows.decode_row.Tie as tie
 
 abbrev Inv-loop : tie.InvT-loop
-Inv-loop bank table plan kind observe row out₀ seen₀ width step i₀ out seen i =
+Inv-loop bank table plan kind observe step row out₀ seen₀ width i₀ out seen i =
     (i ≤ width)
     × (out ≡ over (given (upTo i (oneTexel plan row)) bank) out₀)
     × (seen ≡ over (told (plan .observe) (trail (upTo i (oneTexel plan row)) bank)) seen₀)
@@ -20,15 +20,18 @@ Inv-loop bank table plan kind observe row out₀ seen₀ width step i₀ out see
     × (length seen ≡ length seen₀)
 
 abbrev μ-loop : tie.MeasureT-loop
-μ-loop bank table plan kind observe row out₀ seen₀ width step i₀ out seen i = width - i
+μ-loop bank table plan kind observe step row out₀ seen₀ width i₀ out seen i = width - i
 
--- the function's entry, and where the trail of a texel ends
+-- the function's entry, its step, and where the trail of a texel ends
 abbrev start : tie.At-loop Inv-loop μ-loop → tie.Start Inv-loop μ-loop
 start c = c .before .before .before .before
 
+same-step : (c : tie.At-loop Inv-loop μ-loop) → start c .args .step ≡ start c .args .plan .step
+same-step c = start c .pre .1 .0 .1
+
 ends : (c : tie.At-loop Inv-loop μ-loop) → c .loop .i < start c .args .plan .width
-    → start c .args .plan .step * c .loop .i + start c .args .plan .step ≤ length (c .loop .seen)
-ends c h = omega (arith, part-ends (start c .args .plan .step) (c .loop .i) (start c .args .plan .width) h)
+    → start c .args .step * c .loop .i + start c .args .step ≤ length (c .loop .seen)
+ends c h = rw (same-step c) (omega (arith, part-ends (start c .args .plan .step) (c .loop .i) (start c .args .plan .width) h))
 
 loop-holds : tie.Need-loop-holds Inv-loop μ-loop
 loop-holds c =
@@ -72,7 +75,7 @@ put-texel-requires c κs =
     let a = start s .args .plan in
     let bytes = room 4 (s .loop .i) (a .width) (s .loop .out) (omega arith) (omega arith) in
     let told = room (a .step) (s .loop .i) (a .width) (s .loop .seen) (omega arith) (omega arith) in
-    (p .0, (p .1 .0, (p .1 .1 .0, (omega arith, (bytes, told)))))
+    (p .0, (p .1 .0 .0, (p .1 .1 .0, (omega arith, (bytes, rw (same-step s) told)))))
 
 add-i : tie.Need-add-i Inv-loop μ-loop
 add-i c = omega arith
@@ -86,9 +89,12 @@ loop-again c =
     let a = start s .args in
     let p = start s .pre in
     let t = c .before .before .before .before .put-texel in
-    let o = again (row-given (a .plan) (a .bank .now) (a .row) (a .plan .width) (p .0 .knows)) (s .loop .i) _ _ _ (omega arith) (p .1 .1 .1 .0) (s .loop .inv .1) (t .ensures .0) in
-    let q = again (row-told (a .plan) (a .bank .now) (a .row) (a .plan .width) (p .0 .step)) (s .loop .i) _ _ _ (omega arith) (p .1 .1 .1 .1) (s .loop .inv .2) (t .ensures .1) in
-    (omega arith, o .0, q .0, o .1, q .1)
+    let o = again (row-given (a .plan) (a .bank .now) (a .row) (a .plan .width) (p .0 .knows)) (s .loop .i) _ _ _ (omega arith)
+    (p .1 .1 .1 .0) (s .loop .inv .1) (t .ensures .0) in
+    let told = rw (same-step s) at (t .ensures .1) in
+    let q = again (row-told (a .plan) (a .bank .now) (a .row) (a .plan .width) (p .0 .step)) (s .loop .i) _ _ _ (omega arith)
+    (p .1 .1 .1 .1) (s .loop .inv .2) told in
+    rw (same-step s) (omega arith, o .0, q .0, o .1, q .1)
 
 same-length : tie.Need-same-length Inv-loop μ-loop
 same-length c = c .before .loop .inv .3
