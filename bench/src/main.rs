@@ -38,6 +38,7 @@ fn main() -> ExitCode {
         above: Vec::new(),
     };
     bench.pictures();
+    bench.sizes();
     bench.lookups();
     bench.loads();
     bench.others();
@@ -112,6 +113,20 @@ impl Bench {
         );
     }
 
+    fn sizes(&mut self) {
+        println!("\nPictures of other sizes, nanoseconds a picture.\n");
+        println!("| texels | mode | pair | Rust | archive | ratio | Rust, trail | archive, trail | ratio |");
+        println!("|---|---|---|---|---|---|---|---|---|");
+        for side in [1, 8, 16, 32, 128] {
+            for (mode, (fmt, siz)) in [(0, (0, 2)), (0, (4, 1)), (2, (2, 0)), (2, (2, 1))] {
+                let tile = Tile { width: side, height: side, ..square(fmt, siz, mode) };
+                let name = format!("{side} by {side}, mode {mode}, ({fmt},{siz})");
+                let row = self.picture_cells(name, &tile, Picture::Plain);
+                println!("| {side} by {side} | {mode} | ({fmt},{siz}) | {row} |");
+            }
+        }
+    }
+
     fn lookups(&mut self) {
         println!("\nLookups of 16,384 texels, nanoseconds a lookup.\n");
         let direct = DIRECT.iter().map(|&pair| (0, pair));
@@ -124,13 +139,18 @@ impl Bench {
         println!("|---|---|---|---|---|---|---|---|");
         for (mode, (fmt, siz)) in cases {
             let tile = square(fmt, siz, mode);
-            let name = format!("{which:?} picture, mode {mode}, ({fmt},{siz})");
-            let alone = self.race_picture(&tile, which);
-            let alone = self.judge(name.clone(), alone, GOAL_PICTURES_AND_LOADS);
-            let observed = self.race_observed(&tile, which);
-            let observed = self.judge(name + " with trail", observed, GOAL_PICTURES_AND_LOADS);
-            println!("| {mode} | ({fmt},{siz}) | {alone} | {observed} |");
+            let row = self.picture_cells(format!("{which:?} picture, mode {mode}, ({fmt},{siz})"), &tile, which);
+            println!("| {mode} | ({fmt},{siz}) | {row} |");
         }
+    }
+
+    /// A picture alone, and with its trail.
+    fn picture_cells(&mut self, name: String, tile: &Tile, which: Picture) -> String {
+        let alone = self.race_picture(tile, which);
+        let alone = self.judge(name.clone(), alone, GOAL_PICTURES_AND_LOADS);
+        let observed = self.race_observed(tile, which);
+        let observed = self.judge(name + " with trail", observed, GOAL_PICTURES_AND_LOADS);
+        format!("{alone} | {observed}")
     }
 
     fn race_picture(&mut self, tile: &Tile, which: Picture) -> Pair {

@@ -15,7 +15,7 @@ parts() {
     mkdir -p "$gate/host" "$gate/original/ultragfx/src/hle"
     touch "$gate/original/ultragfx/src/hle/tmem.rs"
     cp "$ci/../host/settings.bash" "$gate/host"
-    for part in .ci/names .ci/contracts .ci/refused tests/gate/run; do
+    for part in .ci/columns .ci/names .ci/contracts .ci/refused tests/gate/run; do
         stand_in "$gate/$part" "echo 'part: $part'"
     done
     stand_in "$gate/.ci/host" '
@@ -55,7 +55,7 @@ order() {
     passes "the gate: all parts pass" run_gate
     cp "$room/said" "$room/printed"
     printed "the order of the parts" "sed -n 's/^part: //p' | paste -sd ," \
-        'rt fmt,tests/gate/run,.ci/names,.ci/contracts,rt ci,.ci/refused,.ci/host'
+        'rt fmt,.ci/columns,tests/gate/run,.ci/names,.ci/contracts,rt ci,.ci/refused,.ci/host'
     printed "its last line" 'tail -n 1' '3 passed, 0 failed'
     printed "the total above it" "tail -n 2 | head -n 1 | sed 's/[0-9][0-9]*/N/'" 'gate: all took N s'
     printed "the line is printed once" 'grep -c passed' 1
@@ -70,7 +70,7 @@ order() {
     not_passed "rt ci ends badly after a good line" '3 passed, 0 failed'
     parts 'rt: stopped' 0
     not_passed "rt ci ends without its line" 'rt: stopped'
-    for part in .ci/names .ci/contracts .ci/refused .ci/host tests/gate/run; do
+    for part in .ci/columns .ci/names .ci/contracts .ci/refused .ci/host tests/gate/run; do
         parts '3 passed, 0 failed' 0
         stand_in "$gate/$part" "echo 'part fails'; exit 1"
         not_passed "$part fails" 'part fails'
