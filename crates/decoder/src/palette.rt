@@ -10,7 +10,6 @@ use crate::plan::Plan;
 use crate::texel::Texel;
 use rdp::units::ByteAddr;
 use texdec::ia8::texel_bytes;
-use texdec::palette::entry_addr;
 use texdec::palette::palette_index;
 use tmem::bank::Bank;
 
@@ -34,7 +33,7 @@ pub(crate) fn paletted_texel(
 {
     let load = load_byte_masked(bank, base, rel, odd, Bank::MASK16);
     let index = palette_index(part, plan.tile.palette, x, load.byte);
-    let at = entry_addr(index as u8, plan.lane).0;
+    let at = Bank::entry_addr(index as u8, plan.lane).0;
     Texel {
         channels: texel_bytes(table[index]),
         reads: [load.at, at, at + 1, 0],

@@ -16,7 +16,7 @@ use texdec::entry::decode_ia16_entry;
 use texdec::entry::decode_rgba16_entry;
 use texdec::ia8::ia8_table;
 use texdec::ia8::texel_of;
-use texdec::palette::entry_addr;
+use tmem::bank::Bank;
 
 // The channels of the entry at an address.
 fn load_palette_entry(bank: &[u8], at: usize, tlut_fmt: u32) -> [u8; 4]
@@ -36,7 +36,7 @@ fn entry_texel(bank: &[u8], tlut_fmt: u32, lane: u32, i: usize) -> u32
     requires { ⌜ i < 256 ⌝ }
     ensures { λ r. ⌜ channels r ≡ entryGives «tlut_fmt» lane (now (bank .entry)) i ⌝ }
 {
-    let at = entry_addr(i as u8, lane);
+    let at = Bank::entry_addr(i as u8, lane);
     let entry = load_palette_entry(bank, at.0, tlut_fmt);
     texel_of(entry[0], entry[1], entry[2], entry[3])
 }

@@ -13,7 +13,6 @@ ghost use Rattle.rdp.specs.View.{tileOf};
 use rdp::tile::TileDescriptor;
 use rdp::units::ByteAddr;
 use rdp::units::swap_odd_line;
-use texdec::palette::entry_addr;
 use texdec::palette::index_part;
 use texdec::palette::palette_index;
 use tmem::bank::Bank;
@@ -77,7 +76,7 @@ fn entry_at(tile: TileDescriptor, lane: u32, x: usize, byte: u8) -> ByteAddr
 {
     let part = index_part(tile.fmt, tile.siz);
     let index = palette_index(part, tile.palette, x, byte);
-    entry_addr(index as u8, lane)
+    Bank::entry_addr(index as u8, lane)
 }
 
 // A texel through the lookup table: its index byte, and the two bytes of the entry.

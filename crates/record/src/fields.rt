@@ -8,10 +8,8 @@ use rdp::tile::TileDescriptor;
 use rdp::units::LineWords;
 use rdp::units::WordAddr;
 
-// The bytes before a record's bank, and with it.
+// The bytes before a record's bank.
 pub const HEAD: usize = 16;
-
-pub const RECORD: usize = HEAD + 4096;
 
 fn byte_at(bytes: &[u8], k: usize) -> u32
     ensures { λ r. ⌜ r ≡ getD (now (bytes .entry)) k 0 ⌝ }

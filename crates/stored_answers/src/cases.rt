@@ -4,12 +4,13 @@ ghost use lib.ListN.{length};
 use crate::buffers;
 use crate::record;
 use rdp::answer::Answer;
+use tmem::bank::Bank;
 
 // The bank of a case.
-fn bank_of(r: &[u8]) -> [u8; 4096]
+fn bank_of(r: &[u8]) -> [u8; Bank::SIZE]
     ensures { λ b. ⌜ 4096 ≡ length b ⌝ }
 {
-    let mut bank = [0u8; 4096];
+    let mut bank = [0u8; Bank::SIZE];
     buffers::made(&mut bank, record::four(r, 30), 0);
     buffers::poke(&mut bank, record::two(r, 26), record::two(r, 28));
     bank
@@ -131,7 +132,7 @@ fn lane_case(r: &[u8]) -> bool {
 
 fn key_case(r: &[u8]) -> bool {
     let bank = bank_of(r);
-    let mut kept = [165u8; 4096];
+    let mut kept = [165u8; Bank::SIZE];
     let tile = record::tile(r);
     let answer = key::key::key(&bank, tile, record::mode(r), record::lane(r), &mut kept);
     answer_is(r, answer, &kept)

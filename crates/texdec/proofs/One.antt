@@ -14,7 +14,6 @@ use Rattle.texdec.proofs.nibble.decode_ia4.Reads as decode-ia4
 use Rattle.texdec.proofs.pair.pair_refusal.Reads as pair-refusal
 use Rattle.texdec.proofs.palette.index_part.Reads as index-part
 use Rattle.texdec.proofs.palette.palette_index.Reads as palette-index
-use Rattle.texdec.proofs.palette.entry_addr.Reads as entry-addr
 
 pub decode-rgba16-entry-one : (w : _) (a : _) (r s : _) (e f : _) → decode-rgba16-entry.Post w a r e → decode-rgba16-entry.Post w a s f
     → r ≡ s
@@ -56,6 +55,3 @@ index-part-one w a r s e f p q = determined p q
 
 pub palette-index-one : (w : _) (a : _) (r s : _) (e f : _) → palette-index.Post w a r e → palette-index.Post w a s f → r ≡ s
 palette-index-one w a r s e f p q = determined p q
-
-pub entry-addr-one : (w : _) (a : _) (r s : _) (e f : _) → entry-addr.Post w a r e → entry-addr.Post w a s f → r ≡ s
-entry-addr-one w a r s e f p q = λ i. record { 0 = determined p q i }

@@ -1,9 +1,7 @@
 // The entry of the lookup table that a byte of a texel stands for.
 ghost use mathlib.Core.Path.{_≡_};
-ghost use Rattle.rules.specs.Picture.{entryAt};
 ghost use Rattle.rules.specs.Texdec.{indexPart, partIndex};
 use crate::nibble::nibble;
-use rdp::units::ByteAddr;
 
 // The part of its byte that a tile's index is: the whole of it, the nibble that x takes, or, for format 1, the high nibble.
 // Pairs of format and size have the numbers below 32 (4 times format, and size), so that no part is taken for a pair.
@@ -32,11 +30,4 @@ pub fn palette_index(part: u32, palette: u32, x: usize, byte: u8) -> usize
         NIBBLE => palette as usize * 16 + nibble(x, byte) as usize,
         _ => palette as usize * 16 + nibble(0, byte) as usize,
     }
-}
-
-// Where an entry of a lane starts. Four lanes of two bytes make an entry.
-pub fn entry_addr(index: u8, lane: u32) -> ByteAddr
-    ensures { λ r. ⌜ r .0 ≡ entryAt index lane ⌝ }
-{
-    ByteAddr(2048 + 8 * index as usize + 2 * lane as usize)
 }

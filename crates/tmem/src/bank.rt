@@ -1,6 +1,8 @@
-// The bank by value, with its numbers as associated constants, and its fresh value.
+// The bank by value, with its numbers as associated constants, its fresh value, and the places of its palette.
 ghost use mathlib.Core.Path.{_≡_};
+ghost use Rattle.rules.specs.Picture.{entryAt};
 ghost use Rattle.rules.specs.Tile.{bankSize, paletteBase, mask8, mask16, freshBank};
+use rdp::units::ByteAddr;
 
 // Texture memory.
 pub struct Bank {
@@ -39,5 +41,12 @@ impl Bank {
         Bank {
             bytes: [0u8; Bank::SIZE],
         }
+    }
+
+    // Where an entry of the palette starts, in a lane: an entry is four lanes of two bytes.
+    pub fn entry_addr(index: u8, lane: u32) -> ByteAddr
+        ensures { λ r. ⌜ r .0 ≡ entryAt index lane ⌝ }
+    {
+        ByteAddr(Bank::PALETTE_BASE + 8 * index as usize + 2 * lane as usize)
     }
 }
