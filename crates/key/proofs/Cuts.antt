@@ -1,8 +1,8 @@
 -- The key cut byte by byte: one byte more of the key, and of the count.
-use mathlib.Core.Path.{_≡_, refl, ap, sym, _∙_}
+use mathlib.Core.Path.{_≡_, ap, _∙_}
 use mathlib.Core.Bool.{Bool, true, false, cond}
-use mathlib.Core.List.{List, [], _∷_, _++_}
-use Prim.Native.Nat.{ℕ, suc, _+_, _*_, _<_, _≤_}
+use mathlib.Core.List.{List}
+use Prim.Native.Nat.{ℕ, _+_, _*_, _<_, _≤_}
 use native.Mathlib.Omega.{arith}
 use native.Mathlib.Numerals.{add-one}
 use native.Mathlib.Nat.{mul-le-mul}
@@ -28,7 +28,8 @@ key-more bank seen key l a h k n e =
     ap (λ k. getD bank a 0 * k) (n a h) ∙ times-one (getD bank a 0) (mem a l) in
     rw (tab-more, add-one) (take-suc-set key a _ k ∙ rw (e, byte))
 
-pub count-more : (seen l : List ℕ) (a count : ℕ) → a < 4096 → Notes seen l → count ≡ distinct a l → count + getD seen a 0 ≡ distinct (a + 1) l
+pub count-more : (seen l : List ℕ) (a count : ℕ) → a < 4096 → Notes seen l → count ≡ distinct a l
+    → count + getD seen a 0 ≡ distinct (a + 1) l
 unfolding Notes distinct
 count-more seen l a count h n e = rw (add-one, n a h, e) (omega arith)
 

@@ -13,7 +13,7 @@ use Rattle.rules.specs.Tile.{Tile}
 use Rattle.rules.specs.Texdec.{accepted, formatOf, known}
 use Rattle.rules.specs.Sampling.{flag, texels}
 use Rattle.rules.specs.Reading.{Reading, given, trail, upTo, Agree}
-use Rattle.rules.specs.Picture.{texel, direct, column, rowStart, plainRow, plain, lookupRow, lookup, picture}
+use Rattle.rules.specs.Picture.{texel, column, rowStart, plainRow, plain, lookupRow, lookup, picture}
 use Rattle.rules.specs.Key.{key, keptCount, flipped, texelAt, Bytes}
 use Rattle.rules.proofs.Keys.{length-key, key-byte, key-given, key-trail, key-key, agree→key, key→agree}
 use Rattle.rules.proofs.Maps.{Below}
@@ -46,7 +46,8 @@ key-same-picture t mode lane bank n =
     (key-given (picture t mode lane) bank n, same, ap (distinct 4096) same)
 
 -- 3. "and is its own key."
-pub key-own-key : (t : Tile) (mode lane : ℕ) (bank : List ℕ) → length bank ≡ 4096 → key t mode lane (key t mode lane bank) ≡ key t mode lane bank
+pub key-own-key : (t : Tile) (mode lane : ℕ) (bank : List ℕ) → length bank ≡ 4096
+    → key t mode lane (key t mode lane bank) ≡ key t mode lane bank
 unfolding key
 key-own-key t mode lane bank n = key-key (picture t mode lane) bank n
 

@@ -3,7 +3,7 @@ use mathlib.Core.Path.{_≡_, refl, ap, sym, _∙_}
 use mathlib.Core.Bool.{Bool, true, false, cond, not, _||_, true≢false}
 use mathlib.Core.List.{List, [], _∷_}
 use mathlib.Core.Logic.{_⊎_, inl, inr, ⊎-elim}
-use Prim.Native.Nat.{ℕ, zero, suc, _+_, _-_, _*_, _/_, _%_, _<_, _≤_}
+use Prim.Native.Nat.{ℕ, _+_, _-_, _*_, _/_, _%_, _<_}
 use native.Mathlib.Omega.{arith}
 use native.Mathlib.Decide.{ℕ-discrete}
 use lib.Dec.{T, eqb}
@@ -12,9 +12,10 @@ use lib.Seq.{getD-set-same, getD-set-other}
 use borrow.Author.Tests.{eqb-true, eq-eqb}
 use Rattle.rules.specs.Base.{mem}
 use Rattle.rules.specs.Key.{flipped, Bytes}
-use Rattle.rules.specs.Reading.{Reading, give, ask, given, trail}
-use Rattle.rules.specs.Texdec.{Format, rgba16, rgba32, ci4, ci8, ci16, ia4, ia8, ia16, i4, i8, unknown, known, wide5, wide4, alpha1, ia4Level, entryOf, rgba16Texel, ia16Texel, ia8Texel, ia4Texel, i4Texel, same4, nibble}
-use Rattle.rules.specs.Picture.{address, direct}
+use Rattle.rules.specs.Reading.{given, trail}
+use Rattle.rules.specs.Texdec.{Format, rgba16, rgba32, ci4, ci8, ci16, ia4, ia8, ia16, i4, i8, unknown, known}
+use Rattle.rules.specs.Texdec.{wide5, wide4, alpha1, entryOf, rgba16Texel, ia16Texel, ia8Texel, ia4Texel, i4Texel, same4, nibble}
+use Rattle.rules.specs.Picture.{direct}
 use Rattle.rules.proofs.Computed.{all, computed}
 
 -- g tells every byte from its flipped one: antt computes it
@@ -192,14 +193,17 @@ module _ (b : List ℕ) (a : ℕ) (n : length b ≡ 4096) (s : Bytes b) where
       → mem a (trail (direct f base palette swap rel x) b) ≡ true
       → given (direct f base palette swap rel x) (flipped a b) ≡ given (direct f base palette swap rel x) b → ⊥
   unfolding direct trail given
-  texel-flips rgba16 base palette swap rel x k m e = two-reads (λ hi lo. rgba16Texel (entryOf hi lo)) _ _ (omega arith) (omega arith) rgba16-first rgba16-second m e
+  texel-flips rgba16 base palette swap rel x k m e =
+      two-reads (λ hi lo. rgba16Texel (entryOf hi lo)) _ _ (omega arith) (omega arith) rgba16-first rgba16-second m e
   texel-flips rgba32 base palette swap rel x k m e = four-reads _ _ _ _ (omega arith) (omega arith) (omega arith) (omega arith) m e
   texel-flips ci4 base palette swap rel x k m e = one-read _ _ (omega arith) (ci4-one palette x) m e
   texel-flips ci8 base palette swap rel x k m e = one-read _ _ (omega arith) same4-one m e
-  texel-flips ci16 base palette swap rel x k m e = two-reads (λ hi lo. hi ∷ lo ∷ hi ∷ lo ∷ []) _ _ (omega arith) (omega arith) ci16-first ci16-second m e
+  texel-flips ci16 base palette swap rel x k m e =
+      two-reads (λ hi lo. hi ∷ lo ∷ hi ∷ lo ∷ []) _ _ (omega arith) (omega arith) ci16-first ci16-second m e
   texel-flips ia4 base palette swap rel x k m e = one-read _ _ (omega arith) (ia4-one x) m e
   texel-flips ia8 base palette swap rel x k m e = one-read _ _ (omega arith) ia8-one m e
-  texel-flips ia16 base palette swap rel x k m e = two-reads (λ hi lo. ia16Texel (entryOf hi lo)) _ _ (omega arith) (omega arith) ia16-first ia16-second m e
+  texel-flips ia16 base palette swap rel x k m e =
+      two-reads (λ hi lo. ia16Texel (entryOf hi lo)) _ _ (omega arith) (omega arith) ia16-first ia16-second m e
   texel-flips i4 base palette swap rel x k m e = one-read _ _ (omega arith) (i4-one x) m e
   texel-flips i8 base palette swap rel x k m e = one-read _ _ (omega arith) same4-one m e
   texel-flips unknown base palette swap rel x k m e = absurd (true≢false (sym k))

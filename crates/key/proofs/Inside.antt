@@ -1,14 +1,13 @@
 -- Every address that a picture reads is below 4,096, for a tile and a lane in range and a bank of bytes.
-use mathlib.Core.Path.{_≡_, refl, ap, sym, _∙_}
-use mathlib.Core.Bool.{Bool, true, false, cond}
+use mathlib.Core.Path.{_≡_, refl}
+use mathlib.Core.Bool.{Bool, true, false}
 use mathlib.Core.List.{List, [], _∷_, _++_}
-use Prim.Native.Nat.{ℕ, zero, suc, _+_, _*_, _/_, _%_, _<_, _≤_}
+use Prim.Native.Nat.{ℕ, zero, suc, _*_, _<_, _≤_}
 use native.Mathlib.Omega.{arith}
-use lib.Dec.{eqb}
 use lib.ListN.{getD}
 use Rattle.rules.specs.Key.{Bytes}
 use Rattle.rules.specs.Tile.{Tile}
-use Rattle.rules.specs.Texdec.{Format, rgba16, rgba32, ci4, ci8, ci16, ia4, ia8, ia16, i4, i8, unknown, formatOf, tlut, nibble, indexPart}
+use Rattle.rules.specs.Texdec.{Format, rgba16, rgba32, ci4, ci8, ci16, ia4, ia8, ia16, i4, i8, unknown, tlut, indexPart}
 use Rattle.rules.specs.Reading.{Reading, trail, upTo}
 use Rattle.rules.specs.Sampling.{flag}
 use Rattle.rules.specs.Picture.{address, direct, paletted, index, texel, plainRow, plain, lookupRow, lookup, picture}
@@ -26,7 +25,8 @@ unfolding upTo trail Below
 up-below zero f b h = tt
 up-below (suc n) f b h = rw trail-then (below-append 4096 (trail (upTo n f) b) (trail (f n) b) (up-below n f b h) (h n))
 
-direct-below : (f : Format) (base palette : ℕ) (swap : Bool) (rel x : ℕ) (b : List ℕ) → Below 4096 (trail (direct f base palette swap rel x) b)
+direct-below : (f : Format) (base palette : ℕ) (swap : Bool) (rel x : ℕ) (b : List ℕ)
+    → Below 4096 (trail (direct f base palette swap rel x) b)
 unfolding direct trail Below
 direct-below rgba16 base palette swap rel x b = omega arith
 direct-below rgba32 base palette swap rel x b = omega arith

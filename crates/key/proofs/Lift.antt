@@ -1,13 +1,12 @@
 -- From a texel to its picture: what holds of one reading in a row of readings of equal length, named by its index.
 use mathlib.Core.Path.{_≡_, refl, ap, sym, _∙_}
 use mathlib.Core.Bool.{Bool, true, false, _||_, true≢false}
-use mathlib.Core.List.{List, [], _∷_, _++_}
+use mathlib.Core.List.{List, _++_}
 use Prim.Native.Nat.{ℕ, zero, suc, _+_, _*_, _<_, _≤_}
 use native.Mathlib.Omega.{arith}
 use native.Mathlib.Decide.{ℕ-discrete}
 use native.Mathlib.Nat.{suc-mul, mul-assoc, mul-le-mul-right, le-of-eq}
-use native.Mathlib.Numerals.{add-one}
-use lib.ListN.{length, getD, take, drop, length-append, length-drop}
+use lib.ListN.{length, take, drop, length-drop}
 use lib.Seq.{drop-append-le, drop-append-add, take-append-le, take-all}
 use Rattle.rules.specs.Base.{mem}
 use Rattle.rules.specs.Key.{texelAt}
@@ -26,7 +25,9 @@ pub found : (f : ℕ → Reading) (b : List ℕ) (n a : ℕ) → mem a (trail (u
 unfolding upTo trail mem
 found f b zero a h = absurd (true≢false (sym h))
 found f b (suc n) a h =
-    go (mem a (trail (upTo n f) b)) refl (sym (mem-append a (trail (upTo n f) b) (trail (f n) b)) ∙ ap (mem a) (sym (trail-then (upTo n f) (f n) b)) ∙ h) (found f b n a)
+    go (mem a (trail (upTo n f) b)) refl
+    (sym (mem-append a (trail (upTo n f) b) (trail (f n) b)) ∙ ap (mem a) (sym (trail-then (upTo n f) (f n) b)) ∙ h)
+    (found f b n a)
   where
     go : (t : Bool) → mem a (trail (upTo n f) b) ≡ t → (t || mem a (trail (f n) b)) ≡ true
         → (mem a (trail (upTo n f) b) ≡ true → Place f b n a) → Place f b (suc n) a

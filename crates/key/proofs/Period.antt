@@ -11,13 +11,14 @@ use Rattle.rules.specs.Base.{mem}
 use Rattle.rules.specs.Tile.{Tile}
 use Rattle.rules.specs.Reading.{Reading, trail, upTo}
 use Rattle.rules.specs.Sampling.{flag}
-use Rattle.rules.specs.Picture.{texel, column, rowStart, plainRow, plain, lookup, picture}
+use Rattle.rules.specs.Picture.{texel, column, plainRow, plain, lookup, picture}
 use Rattle.key.specs.Notes.{noted, Notes}
 use Rattle.rules.proofs.Readings.{trail-then}
 use Rattle.rules.proofs.Tables.{mem-append}
 use Rattle.key.proofs.Notes.{notes-of, notes-same}
 
-mem-more : (f : ℕ → Reading) (b : List ℕ) (n a : ℕ) → mem a (trail (upTo (suc n) f) b) ≡ (mem a (trail (upTo n f) b) || mem a (trail (f n) b))
+mem-more : (f : ℕ → Reading) (b : List ℕ) (n a : ℕ)
+    → mem a (trail (upTo (suc n) f) b) ≡ (mem a (trail (upTo n f) b) || mem a (trail (f n) b))
 unfolding upTo
 mem-more f b n a = ap (mem a) (trail-then (upTo n f) (f n) b) ∙ mem-append a (trail (upTo n f) b) (trail (f n) b)
 
@@ -69,7 +70,9 @@ module _ (t : Tile) (mode lane : ℕ) (b s u : List ℕ) (z : s ≡ replicate 40
   unfolding picture
   lookup-notes f e = rw (picture, f, e, z) (notes-of (trail (lookup t mode lane) b))
 
-  pub plain-notes : flag t mode ≡ false → u ≡ noted s (trail (upTo (min (t .height) 256) (plainRow t mode lane)) b) → Notes u (trail (picture t mode lane) b)
+  pub plain-notes : flag t mode ≡ false → u ≡ noted s (trail (upTo (min (t .height) 256) (plainRow t mode lane)) b)
+      → Notes u (trail (picture t mode lane) b)
   unfolding picture
   plain-notes f e =
-      rw (picture, f, e, z) (notes-same _ _ _ (plain-capped t mode lane b) (notes-of (trail (upTo (min (t .height) 256) (plainRow t mode lane)) b)))
+      rw (picture, f, e, z)
+      (notes-same _ _ _ (plain-capped t mode lane b) (notes-of (trail (upTo (min (t .height) 256) (plainRow t mode lane)) b)))

@@ -2,7 +2,7 @@
 ghost use mathlib.Core.Path.{_≡_};
 ghost use mathlib.Core.Bool.{true};
 ghost use mathlib.Core.List.{List, [], _∷_};
-ghost use Prim.Native.Nat.{ℕ, _+_, _*_, _<_, _≤_};
+ghost use Prim.Native.Nat.{ℕ, _+_, _<_, _≤_};
 ghost use lib.ListN.{length};
 ghost use Rattle.rules.specs.Texdec.{acceptedDirect, accepted, formatOf};
 ghost use Rattle.rules.specs.Tile.{InRange, bankSize};
@@ -49,7 +49,8 @@ fn note_direct(notes: &mut [u8], fmt: u32, siz: u32, base: ByteAddr, odd: bool, 
     requires { ⌜ base .0 < bankSize ⌝ }
     requires { ⌜ rel < 2097152 ⌝ }
     requires { ⌜ length (now notes) ≡ bankSize ⌝ }
-    ensures { λ _. ⌜ ((palette x : ℕ) (bank : List ℕ) → now (notes .exit) ≡ noted (now (notes .entry)) (trail (direct (formatOf fmt siz) (base .0) palette odd rel x) bank)) ⌝ }
+    ensures { λ _. ⌜ ((palette x : ℕ) (bank : List ℕ)
+        → now (notes .exit) ≡ noted (now (notes .entry)) (trail (direct (formatOf fmt siz) (base .0) palette odd rel x) bank)) ⌝ }
 {
     if (fmt == 0) & (siz == 3) {
         let low = placed(base, odd, rel).0 % Bank::PALETTE_BASE;
@@ -93,7 +94,8 @@ fn note_paletted(
     requires { ⌜ InRange (tileOf tile) ⌝ }
     requires { ⌜ lane ≤ 3 ⌝ }
     requires { ⌜ rel < 2097152 ⌝ }
-    ensures { λ _. ⌜ ((mode : ℕ) → now (notes .exit) ≡ noted (now (notes .entry)) (trail (paletted (tileOf tile) mode lane odd rel x) (now (bank .entry)))) ⌝ }
+    ensures { λ _. ⌜ ((mode : ℕ)
+        → now (notes .exit) ≡ noted (now (notes .entry)) (trail (paletted (tileOf tile) mode lane odd rel x) (now (bank .entry)))) ⌝ }
 {
     let word = tile.tmem_addr;
     let at = placed(word.bytes(), odd, rel).0 % Bank::PALETTE_BASE;
@@ -118,7 +120,8 @@ pub(crate) fn note_texel(
     requires { ⌜ lane ≤ 3 ⌝ }
     requires { ⌜ accepted tlut (tile .fmt) (tile .siz) ≡ true ⌝ }
     requires { ⌜ rel < 2097152 ⌝ }
-    ensures { λ _. ⌜ now (notes .exit) ≡ noted (now (notes .entry)) (trail (texel (tileOf tile) tlut lane odd rel x) (now (bank .entry))) ⌝ }
+    ensures { λ _. ⌜ now (notes .exit)
+        ≡ noted (now (notes .entry)) (trail (texel (tileOf tile) tlut lane odd rel x) (now (bank .entry))) ⌝ }
 {
     if 2 <= tlut {
         note_paletted(bank, notes, tile, lane, odd, rel, x);

@@ -51,7 +51,8 @@ pub(crate) fn note_plain(bank: &[u8], notes: &mut [u8], tile: TileDescriptor, tl
     requires { ⌜ InRange (tileOf tile) ⌝ }
     requires { ⌜ lane ≤ 3 ⌝ }
     requires { ⌜ accepted tlut (tile .fmt) (tile .siz) ≡ true ⌝ }
-    ensures { λ _. ⌜ now (notes .exit) ≡ noted (now (notes .entry)) (trail (upTo (min (tile .height) 256) (plainRow (tileOf tile) tlut lane)) (now (bank .entry))) ⌝ }
+    ensures { λ _. ⌜ now (notes .exit)
+        ≡ noted (now (notes .entry)) (trail (upTo (min (tile .height) 256) (plainRow (tileOf tile) tlut lane)) (now (bank .entry))) ⌝ }
 {
     let rows = rows_read(tile.height);
     for y in 0..rows {

@@ -32,8 +32,8 @@ mode-outside-one w a r s e f p q = determined p q
 pub lane-outside-one : (w : _) (a : _) (r s : _) (e f : _) → lane-outside.Post w a r e → lane-outside.Post w a s f → r ≡ s
 lane-outside-one w a r s e f p q = determined p q
 
-pub tile-and-mode-refusal-one : (w : _) (a : _) (r s : _) (e f : _) → tile-and-mode-refusal.Post w a r e → tile-and-mode-refusal.Post w a s f
-    → r ≡ s
+pub tile-and-mode-refusal-one : (w : _) (a : _) (r s : _) (e f : _) → tile-and-mode-refusal.Post w a r e
+    → tile-and-mode-refusal.Post w a s f → r ≡ s
 tile-and-mode-refusal-one w a r s e f p q = determined p q
 
 pub word-addr-bytes-one : (w : _) (a : _) (r s : _) (e f : _) → word-addr-bytes.Post w a r e → word-addr-bytes.Post w a s f → r ≡ s

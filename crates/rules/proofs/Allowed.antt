@@ -1,12 +1,12 @@
 -- What holds of a tile, mode and lane that a call which decodes does not refuse; and the tests that come after theirs.
 use mathlib.Core.Path.{_≡_, refl, ap, sym, _∙_}
-use mathlib.Core.Bool.{Bool, true, false, cond, not}
+use mathlib.Core.Bool.{true, false, not}
 use mathlib.Core.List.{List, [], _∷_, _++_}
 use Prim.Native.Nat.{ℕ, _≤_}
 use native.Mathlib.Decide.{ℕ-discrete}
 use borrow.Author.Tests.{ltb-false, not-false, ne-eqb}
 use Rattle.rules.specs.Tile.{Tile, InRange}
-use Rattle.rules.specs.Texdec.{accepted, stepKnows}
+use Rattle.rules.specs.Texdec.{accepted}
 use Rattle.rules.specs.Refusal.{Test, first}
 use Rattle.rules.specs.Calls.{pairTests, unknownPair}
 use Rattle.rules.proofs.Ranges.{in-range}

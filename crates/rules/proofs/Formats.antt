@@ -8,8 +8,9 @@ use lib.ListN.{length}
 use borrow.Author.Tests.{eqb-true, le-leb, lt-leb}
 use Rattle.rules.specs.Base.{any}
 use Rattle.rules.specs.Tile.{Tile}
-use Rattle.rules.specs.Texdec.{Format, rgba16, rgba32, ci4, ci8, ci16, ia4, ia8, ia16, i4, i8, unknown, known, formatOf, tlut, Pair, directPairs, acceptedDirect, accepted, stepKnows}
-use Rattle.rules.specs.Reading.{Reading, given, trail}
+use Rattle.rules.specs.Texdec.{Format, rgba16, rgba32, ci4, ci8, ci16, ia4, ia8, ia16, i4, i8, unknown, known, formatOf}
+use Rattle.rules.specs.Texdec.{tlut, Pair, directPairs, acceptedDirect, accepted, stepKnows}
+use Rattle.rules.specs.Reading.{given, trail}
 use Rattle.rules.specs.Sampling.{isRgba32}
 use Rattle.rules.specs.Picture.{address, direct, paletted, texel, formatReads}
 
@@ -61,7 +62,8 @@ accepted-known mode fmt siz a = go (tlut mode) a
     go false a = direct-known fmt siz a
 
 -- in modes 2 and 3 a texel goes through the lookup table, in modes 0 and 1 it is its format's
-pub texel-tlut : (t : Tile) (mode lane : ℕ) (swap : Bool) (rel x : ℕ) → 2 ≤ mode → texel t mode lane swap rel x ≡ paletted t mode lane swap rel x
+pub texel-tlut : (t : Tile) (mode lane : ℕ) (swap : Bool) (rel x : ℕ) → 2 ≤ mode
+    → texel t mode lane swap rel x ≡ paletted t mode lane swap rel x
 unfolding texel
 texel-tlut t mode lane swap rel x h = rw (texel, le-leb 2 mode h)
 

@@ -1,8 +1,8 @@
 -- Laws of stores: they are carried out list after list, and keep the bank's length.
-use mathlib.Core.Path.{_≡_, refl, ap, sym, _∙_}
+use mathlib.Core.Path.{_≡_, refl, ap, _∙_}
 use mathlib.Core.List.{List, [], _∷_, _++_}
 use Prim.Native.Nat.{ℕ}
-use lib.ListN.{length, getD, set, length-set}
+use lib.ListN.{length, length-set}
 use Rattle.rules.specs.Load.{Store, stored, addresses, written}
 use Rattle.rules.proofs.Maps.{marks-append, length-marks}
 

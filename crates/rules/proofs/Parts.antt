@@ -41,7 +41,8 @@ module _ {n : ℕ} {part whole : ℕ → List ℕ} {g : ℕ} (p : Parts n part w
   again i old xs ys h l ex ey =
       let e : take (g * i) xs ++ (ys ++ drop (length xs - g * i) (drop (g * i) xs)) ≡ over (whole (i + 1)) old =
       rw (p .more i h) (over-back _ _ _ _ _ _ ex (length-whole i (omega arith)) ey) in
-      let fits : length (whole (i + 1)) ≤ length old = rw (length-whole (i + 1) (omega arith), add-one, mul-suc) (omega (arith, part-ends g i n h)) in
+      let fits : length (whole (i + 1)) ≤ length old =
+      rw (length-whole (i + 1) (omega arith), add-one, mul-suc) (omega (arith, part-ends g i n h)) in
       (e, ap length e ∙ length-over (whole (i + 1)) old fits)
 
 -- the part of a buffer from part i on has room for it

@@ -2,7 +2,6 @@
 use mathlib.Core.Path.{_≡_, refl}
 use mathlib.Core.Bool.{Bool, true, false, _||_, true≢false}
 use mathlib.Core.List.{List, [], _∷_}
-use Prim.Native.Nat.{ℕ}
 use lib.Dec.{ltb}
 use borrow.Author.Tests.{ltb-false}
 use Rattle.rules.specs.Tile.{Tile, sideLimit, loadFieldsOutside, tileOutside, InRange}
@@ -35,10 +34,12 @@ loadTests : (t : Tile) → loadFieldsOutside t ≡ false
 loadTests t h = none (ltb 7 (t .fmt)) (ltb 3 (t .siz) ∷ ltb 511 (t .line) ∷ ltb 511 (t .tmem-addr) ∷ []) h
 
 otherTests : (t : Tile) → tileOutside t ≡ false
-    → None (loadFieldsOutside t ∷ ltb 15 (t .palette) ∷ ltb 3 (t .cms) ∷ ltb 3 (t .cmt) ∷ ltb 15 (t .masks) ∷ ltb 15 (t .maskt) ∷ ltb sideLimit (t .width) ∷ ltb sideLimit (t .height) ∷ [])
+    → None (loadFieldsOutside t ∷ ltb 15 (t .palette) ∷ ltb 3 (t .cms) ∷ ltb 3 (t .cmt) ∷ ltb 15 (t .masks) ∷ ltb 15 (t .maskt)
+    ∷ ltb sideLimit (t .width) ∷ ltb sideLimit (t .height) ∷ [])
 otherTests t h =
     none (loadFieldsOutside t)
-    (ltb 15 (t .palette) ∷ ltb 3 (t .cms) ∷ ltb 3 (t .cmt) ∷ ltb 15 (t .masks) ∷ ltb 15 (t .maskt) ∷ ltb sideLimit (t .width) ∷ ltb sideLimit (t .height) ∷ [])
+    (ltb 15 (t .palette) ∷ ltb 3 (t .cms) ∷ ltb 3 (t .cmt) ∷ ltb 15 (t .masks) ∷ ltb 15 (t .maskt)
+    ∷ ltb sideLimit (t .width) ∷ ltb sideLimit (t .height) ∷ [])
     h
 
 pub in-range : (t : Tile) → tileOutside t ≡ false → InRange t

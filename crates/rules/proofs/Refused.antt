@@ -7,7 +7,7 @@ use lib.Dec.{eqb}
 use borrow.Author.Tests.{eq-eqb, ne-eqb, eqb-false}
 use mir.Val.{boolByte}
 use Rattle.rules.specs.Base.{one}
-use Rattle.rules.specs.Refusal.{Test, first, Outcome, zeros, settle, call}
+use Rattle.rules.specs.Refusal.{Test, first, zeros, settle, call}
 
 pub first-next : (t : Test) (l : List Test) → t .fails ≡ false → first (t ∷ l) ≡ first l
 unfolding first
@@ -33,7 +33,8 @@ unfolding Numbered
 numbered [] h = tt
 numbered (t ∷ l) h = go (eqb (t .number) 0) refl h (numbered l)
   where
-    go : (b : Bool) → eqb (t .number) 0 ≡ b → (not b && nonzero l) ≡ true → (nonzero l ≡ true → Numbered l) → (t .number ≡ 0 → ⊥) × Numbered l
+    go : (b : Bool) → eqb (t .number) 0 ≡ b → (not b && nonzero l) ≡ true → (nonzero l ≡ true → Numbered l)
+        → (t .number ≡ 0 → ⊥) × Numbered l
     go true e h′ ih = absurd (true≢false (sym h′))
     go false e h′ ih = (eqb-false (t .number) 0 e, ih h′)
 

@@ -12,5 +12,8 @@ use Rattle.rules.specs.Lister.{recordTile, lineOf, recordLine, lowDigits
 use Rattle.rules.specs.Worked.{table, allSame}
 
 pub worked : T (allSame table)
-unfolding table tab tabFrom concat mem any distinct trail given andThen prepend upTo accepted acceptedDirect formatOf flag texels stored list4 splitStores wholeStores wordStores blockStores tlutStores hardwareStores rowStores picture plain plainRow lookup lookupRow texel paletted direct key keyOf kept keptCount first settle call recordTile lineOf recordLine lowDigits reversed decimal lineText listing
+unfolding table tab tabFrom concat mem any distinct trail given andThen prepend upTo accepted acceptedDirect formatOf flag texels
+    stored list4 splitStores wholeStores wordStores blockStores tlutStores hardwareStores rowStores
+    picture plain plainRow lookup lookupRow texel paletted direct key keyOf kept keptCount
+    first settle call recordTile lineOf recordLine lowDigits reversed decimal lineText listing
 worked = tt

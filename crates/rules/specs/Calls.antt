@@ -75,7 +75,8 @@ blockCall bank map src t image dxt words =
 
 unfoldable pub tileCall : List ℕ → List ℕ → List ℕ → Tile → ℕ → ℕ → ℕ → ℕ → Outcome
 tileCall bank map src t image rows words stride =
-    loaded (loadTests bank map src t image (tileLoadOutside rows words stride)) (tileStores (loadTile t) image rows words stride) bank map src
+    loaded (loadTests bank map src t image (tileLoadOutside rows words stride))
+    (tileStores (loadTile t) image rows words stride) bank map src
 
 unfoldable pub tlutCall : List ℕ → List ℕ → List ℕ → Tile → ℕ → ℕ → ℕ → ℕ → Outcome
 tlutCall bank map src t image count rows stride =

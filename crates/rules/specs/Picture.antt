@@ -7,7 +7,8 @@ use lib.Dec.{eqb}
 use Rattle.rules.specs.Base.{odd}
 use Rattle.rules.specs.Reading.{Reading, give, ask, upTo}
 use Rattle.rules.specs.Tile.{Tile}
-use Rattle.rules.specs.Texdec.{Format, rgba16, rgba32, ci4, ci8, ci16, ia4, ia8, ia16, i4, i8, unknown, formatOf, tlut, entryOf, rgba16Texel, ia16Texel, ia8Texel, ia4Texel, i4Texel, same4, nibble}
+use Rattle.rules.specs.Texdec.{Format, rgba16, rgba32, ci4, ci8, ci16, ia4, ia8, ia16, i4, i8, unknown, formatOf}
+use Rattle.rules.specs.Texdec.{tlut, entryOf, rgba16Texel, ia16Texel, ia8Texel, ia4Texel, i4Texel, same4, nibble}
 use Rattle.rules.specs.Sampling.{flag}
 
 -- "(rel, xor 4 on odd rows)"
@@ -27,7 +28,8 @@ direct f base palette swap rel x =
     elim f [
       | rgba16 ↦ ask (at rel) (λ hi. ask (at (rel + 1)) (λ lo. give (rgba16Texel (entryOf hi lo))))
       | rgba32 ↦
-          ask (low rel) (λ r. ask (low (rel + 1)) (λ g. ask (low rel + 2048) (λ b. ask (low (rel + 1) + 2048) (λ a. give (r ∷ g ∷ b ∷ a ∷ [])))))
+          ask (low rel) (λ r. ask (low (rel + 1)) (λ g.
+          ask (low rel + 2048) (λ b. ask (low (rel + 1) + 2048) (λ a. give (r ∷ g ∷ b ∷ a ∷ [])))))
       | ci4 ↦ ask (at rel) (λ v. give (same4 (palette * 16 + nibble x v)))
       | ci8 ↦ ask (at rel) (λ v. give (same4 v))
       | ci16 ↦ ask (at rel) (λ hi. ask (at (rel + 1)) (λ lo. give (hi ∷ lo ∷ hi ∷ lo ∷ [])))

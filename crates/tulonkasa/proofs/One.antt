@@ -39,7 +39,8 @@ tk-reach-one w a r s e f p q = refusal-determined _ r s _ _ p q
 pub tk-tile-has-load-one : (w : _) (a : _) (r s : _) (e f : _) → tk-tile-has-load.Post w a r e → tk-tile-has-load.Post w a s f → r ≡ s
 tk-tile-has-load-one w a r s e f p q = yes-determined _ r s p q
 
-pub tk-palette-nonreplicated-one : (w : _) (a : _) (r s : _) (e f : _) → tk-palette-nonreplicated.Post w a r e → tk-palette-nonreplicated.Post w a s f
+pub tk-palette-nonreplicated-one : (w : _) (a : _) (r s : _) (e f : _) → tk-palette-nonreplicated.Post w a r e
+    → tk-palette-nonreplicated.Post w a s f
     → (r ≡ s) × (now (e .1 .0) ∷ [] ≡ now (f .1 .0) ∷ [])
 tk-palette-nonreplicated-one w a r s e f p q = refusal-determined _ r s _ _ p q
 
@@ -47,16 +48,22 @@ pub tk-sample-tile-one : (w : _) (a : _) (r s : _) (e f : _) → tk-sample-tile.
     → (r ≡ s) × (now (e .1 .1 .1 .1 .1 .1 .1 .1 .1 .1 .1 .1 .1 .1 .0) ∷ [] ≡ now (f .1 .1 .1 .1 .1 .1 .1 .1 .1 .1 .1 .1 .1 .1 .0) ∷ [])
 tk-sample-tile-one w a r s e f p q = answered-determined _ r s _ _ p q
 
-pub tk-sample-tile-observed-one : (w : _) (a : _) (r s : _) (e f : _) → tk-sample-tile-observed.Post w a r e → tk-sample-tile-observed.Post w a s f
-    → (r ≡ s) × (now (e .1 .1 .1 .1 .1 .1 .1 .1 .1 .1 .1 .1 .1 .1 .0) ∷ now (e .1 .1 .1 .1 .1 .1 .1 .1 .1 .1 .1 .1 .1 .1 .1 .0) ∷ [] ≡ now (f .1 .1 .1 .1 .1 .1 .1 .1 .1 .1 .1 .1 .1 .1 .0) ∷ now (f .1 .1 .1 .1 .1 .1 .1 .1 .1 .1 .1 .1 .1 .1 .1 .0) ∷ [])
+pub tk-sample-tile-observed-one : (w : _) (a : _) (r s : _) (e f : _) → tk-sample-tile-observed.Post w a r e
+    → tk-sample-tile-observed.Post w a s f
+    → (r ≡ s)
+    × (now (e .1 .1 .1 .1 .1 .1 .1 .1 .1 .1 .1 .1 .1 .1 .0) ∷ now (e .1 .1 .1 .1 .1 .1 .1 .1 .1 .1 .1 .1 .1 .1 .1 .0) ∷ []
+    ≡ now (f .1 .1 .1 .1 .1 .1 .1 .1 .1 .1 .1 .1 .1 .1 .0) ∷ now (f .1 .1 .1 .1 .1 .1 .1 .1 .1 .1 .1 .1 .1 .1 .1 .0) ∷ [])
 tk-sample-tile-observed-one w a r s e f p q = answered-determined _ r s _ _ p q
 
 pub tk-sampling-lookup-one : (w : _) (a : _) (r s : _) (e f : _) → tk-sampling-lookup.Post w a r e → tk-sampling-lookup.Post w a s f
     → (r ≡ s) × (now (e .1 .1 .1 .1 .1 .1 .1 .1 .1 .1 .1 .1 .1 .1 .0) ∷ [] ≡ now (f .1 .1 .1 .1 .1 .1 .1 .1 .1 .1 .1 .1 .1 .1 .0) ∷ [])
 tk-sampling-lookup-one w a r s e f p q = answered-determined _ r s _ _ p q
 
-pub tk-sampling-lookup-observed-one : (w : _) (a : _) (r s : _) (e f : _) → tk-sampling-lookup-observed.Post w a r e → tk-sampling-lookup-observed.Post w a s f
-    → (r ≡ s) × (now (e .1 .1 .1 .1 .1 .1 .1 .1 .1 .1 .1 .1 .1 .1 .0) ∷ now (e .1 .1 .1 .1 .1 .1 .1 .1 .1 .1 .1 .1 .1 .1 .1 .0) ∷ [] ≡ now (f .1 .1 .1 .1 .1 .1 .1 .1 .1 .1 .1 .1 .1 .1 .0) ∷ now (f .1 .1 .1 .1 .1 .1 .1 .1 .1 .1 .1 .1 .1 .1 .1 .0) ∷ [])
+pub tk-sampling-lookup-observed-one : (w : _) (a : _) (r s : _) (e f : _) → tk-sampling-lookup-observed.Post w a r e
+    → tk-sampling-lookup-observed.Post w a s f
+    → (r ≡ s)
+    × (now (e .1 .1 .1 .1 .1 .1 .1 .1 .1 .1 .1 .1 .1 .1 .0) ∷ now (e .1 .1 .1 .1 .1 .1 .1 .1 .1 .1 .1 .1 .1 .1 .1 .0) ∷ []
+    ≡ now (f .1 .1 .1 .1 .1 .1 .1 .1 .1 .1 .1 .1 .1 .1 .0) ∷ now (f .1 .1 .1 .1 .1 .1 .1 .1 .1 .1 .1 .1 .1 .1 .1 .0) ∷ [])
 tk-sampling-lookup-observed-one w a r s e f p q = answered-determined _ r s _ _ p q
 
 pub tk-sampling-one : (w : _) (a : _) (r s : _) (e f : _) → tk-sampling.Post w a r e → tk-sampling.Post w a s f → r ≡ s

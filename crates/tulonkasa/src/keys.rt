@@ -26,7 +26,9 @@ pub extern "C" fn tk_key(
     lane: u32,
     key: &mut [u8],
 ) -> Answer
-    ensures { λ r. ⌜ answered r (now (key .exit) ∷ []) ≡ keyCall (now (bank .entry)) (tileFrom fmt siz palette cms cmt masks maskt line «tmem_addr» width height) mode lane (now (key .entry)) ⌝ }
+    ensures { λ r. ⌜ answered r (now (key .exit) ∷ [])
+        ≡ keyCall (now (bank .entry)) (tileFrom fmt siz palette cms cmt masks maskt line «tmem_addr» width height)
+        mode lane (now (key .entry)) ⌝ }
 {
     let tile = tile_from(
         fmt,

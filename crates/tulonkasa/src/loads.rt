@@ -21,7 +21,9 @@ pub extern "C" fn tk_load_block(
     dxt: u32,
     words: u32,
 ) -> Answer
-    ensures { λ r. ⌜ answered r (now (bank .exit) ∷ now (written .exit) ∷ []) ≡ blockCall (now (bank .entry)) (now (written .entry)) (now (source .entry)) (loadTileFrom fmt siz line «tmem_addr») «image_siz» dxt words ⌝ }
+    ensures { λ r. ⌜ answered r (now (bank .exit) ∷ now (written .exit) ∷ [])
+        ≡ blockCall (now (bank .entry)) (now (written .entry)) (now (source .entry))
+        (loadTileFrom fmt siz line «tmem_addr») «image_siz» dxt words ⌝ }
 {
     let tile = load_tile_from(fmt, siz, line, tmem_addr);
     tmem::load::write_block_for_tile(bank, written, source, tile, image_siz, dxt, words)
@@ -42,7 +44,9 @@ pub extern "C" fn tk_load_tile(
     words: u32,
     stride: u32,
 ) -> Answer
-    ensures { λ r. ⌜ answered r (now (bank .exit) ∷ now (written .exit) ∷ []) ≡ tileCall (now (bank .entry)) (now (written .entry)) (now (source .entry)) (loadTileFrom fmt siz line «tmem_addr») «image_siz» rows words stride ⌝ }
+    ensures { λ r. ⌜ answered r (now (bank .exit) ∷ now (written .exit) ∷ [])
+        ≡ tileCall (now (bank .entry)) (now (written .entry)) (now (source .entry))
+        (loadTileFrom fmt siz line «tmem_addr») «image_siz» rows words stride ⌝ }
 {
     let tile = load_tile_from(fmt, siz, line, tmem_addr);
     tmem::load::write_tile_for_tile(bank, written, source, tile, image_siz, rows, words, stride)
@@ -63,7 +67,9 @@ pub extern "C" fn tk_load_tlut(
     rows: u32,
     stride: u32,
 ) -> Answer
-    ensures { λ r. ⌜ answered r (now (bank .exit) ∷ now (written .exit) ∷ []) ≡ tlutCall (now (bank .entry)) (now (written .entry)) (now (source .entry)) (loadTileFrom fmt siz line «tmem_addr») «image_siz» count rows stride ⌝ }
+    ensures { λ r. ⌜ answered r (now (bank .exit) ∷ now (written .exit) ∷ [])
+        ≡ tlutCall (now (bank .entry)) (now (written .entry)) (now (source .entry))
+        (loadTileFrom fmt siz line «tmem_addr») «image_siz» count rows stride ⌝ }
 {
     let tile = load_tile_from(fmt, siz, line, tmem_addr);
     tmem::load::write_tlut_for_tile(bank, written, source, tile, image_siz, count, rows, stride)

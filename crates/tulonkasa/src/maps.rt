@@ -24,7 +24,8 @@ pub extern "C" fn tk_reach(
     height: u32,
     map: &mut [u8],
 ) -> u32
-    ensures { λ r. ⌜ refusalAnswered r (now (map .exit) ∷ []) ≡ reachCall (tileFrom fmt siz palette cms cmt masks maskt line «tmem_addr» width height) mode (now (map .entry)) ⌝ }
+    ensures { λ r. ⌜ refusalAnswered r (now (map .exit) ∷ [])
+        ≡ reachCall (tileFrom fmt siz palette cms cmt masks maskt line «tmem_addr» width height) mode (now (map .entry)) ⌝ }
 {
     let tile = tile_from(
         fmt,
@@ -59,7 +60,8 @@ pub extern "C" fn tk_tile_has_load(
     height: u32,
     written: &[u8],
 ) -> YesAnswer
-    ensures { λ r. ⌜ yesAnswered r ≡ hasLoadCall (tileFrom fmt siz palette cms cmt masks maskt line «tmem_addr» width height) mode (now (written .entry)) ⌝ }
+    ensures { λ r. ⌜ yesAnswered r
+        ≡ hasLoadCall (tileFrom fmt siz palette cms cmt masks maskt line «tmem_addr» width height) mode (now (written .entry)) ⌝ }
 {
     let tile = tile_from(
         fmt,

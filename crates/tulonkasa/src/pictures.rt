@@ -26,7 +26,9 @@ pub extern "C" fn tk_sample_tile(
     lane: u32,
     picture: &mut [u8],
 ) -> Answer
-    ensures { λ r. ⌜ answered r (now (picture .exit) ∷ []) ≡ sampleTileCall (now (bank .entry)) (tileFrom fmt siz palette cms cmt masks maskt line «tmem_addr» width height) mode lane (now (picture .entry)) ⌝ }
+    ensures { λ r. ⌜ answered r (now (picture .exit) ∷ [])
+        ≡ sampleTileCall (now (bank .entry)) (tileFrom fmt siz palette cms cmt masks maskt line «tmem_addr» width height)
+        mode lane (now (picture .entry)) ⌝ }
 {
     let tile = tile_from(
         fmt,
@@ -64,7 +66,9 @@ pub extern "C" fn tk_sample_tile_observed(
     picture: &mut [u8],
     trail: &mut [u8],
 ) -> Answer
-    ensures { λ r. ⌜ answered r (now (picture .exit) ∷ now (trail .exit) ∷ []) ≡ sampleTileObservedCall (now (bank .entry)) (tileFrom fmt siz palette cms cmt masks maskt line «tmem_addr» width height) mode lane (now (picture .entry)) (now (trail .entry)) ⌝ }
+    ensures { λ r. ⌜ answered r (now (picture .exit) ∷ now (trail .exit) ∷ [])
+        ≡ sampleTileObservedCall (now (bank .entry)) (tileFrom fmt siz palette cms cmt masks maskt line «tmem_addr» width height)
+        mode lane (now (picture .entry)) (now (trail .entry)) ⌝ }
 {
     let tile = tile_from(
         fmt,
@@ -101,7 +105,9 @@ pub extern "C" fn tk_sampling_lookup(
     lane: u32,
     picture: &mut [u8],
 ) -> Answer
-    ensures { λ r. ⌜ answered r (now (picture .exit) ∷ []) ≡ samplingLookupCall (now (bank .entry)) (tileFrom fmt siz palette cms cmt masks maskt line «tmem_addr» width height) mode lane (now (picture .entry)) ⌝ }
+    ensures { λ r. ⌜ answered r (now (picture .exit) ∷ [])
+        ≡ samplingLookupCall (now (bank .entry)) (tileFrom fmt siz palette cms cmt masks maskt line «tmem_addr» width height)
+        mode lane (now (picture .entry)) ⌝ }
 {
     let tile = tile_from(
         fmt,
@@ -139,7 +145,9 @@ pub extern "C" fn tk_sampling_lookup_observed(
     picture: &mut [u8],
     trail: &mut [u8],
 ) -> Answer
-    ensures { λ r. ⌜ answered r (now (picture .exit) ∷ now (trail .exit) ∷ []) ≡ samplingLookupObservedCall (now (bank .entry)) (tileFrom fmt siz palette cms cmt masks maskt line «tmem_addr» width height) mode lane (now (picture .entry)) (now (trail .entry)) ⌝ }
+    ensures { λ r. ⌜ answered r (now (picture .exit) ∷ now (trail .exit) ∷ [])
+        ≡ samplingLookupObservedCall (now (bank .entry)) (tileFrom fmt siz palette cms cmt masks maskt line «tmem_addr» width height)
+        mode lane (now (picture .entry)) (now (trail .entry)) ⌝ }
 {
     let tile = tile_from(
         fmt,

@@ -1,15 +1,15 @@
 -- `key::key::key` answers the call's outcome: the first refusal, or the key and its kept count. Assumes nothing.
-use mathlib.Core.Path.{_≡_, ap, sym, _∙_}
+use mathlib.Core.Path.{_≡_, sym, _∙_}
 use mathlib.Core.List.{List, [], _∷_}
 use Prim.Native.Nat.{ℕ}
 use borrow.Author.Needs.{needs}
 use Rattle.rules.specs.Tile.{Tile}
-use Rattle.rules.specs.Refusal.{Outcome, first}
+use Rattle.rules.specs.Refusal.{first}
 use Rattle.rules.specs.Calls.{keyTests, keyCall}
 use Rattle.rules.specs.Key.{key, keptCount}
 use Rattle.rules.proofs.Refused.{refused-is, done-is}
 use Rattle.rdp.specs.View.{tileOf}
-use Rattle.key.proofs.Within.{Within, within}
+use Rattle.key.proofs.Within.{within}
 use Rattle.key.proofs.key.key.Statement.{statement}
 use Rattle.key.proofs.key.key.Tie as tie
 

@@ -24,7 +24,8 @@ unfolding first
 returns-3 c =
     let b = c .before in
     let a = b .before .before .before .before .args in
-    rw (eq-eqb _ _ (b .before .if1 .left), eq-eqb _ _ (b .if2 .left)) (c .pair-refusal .ensures ∙ never-nine (tileOf (a .tile)) (a .tlut) (a .lane))
+    rw (eq-eqb _ _ (b .before .if1 .left), eq-eqb _ _ (b .if2 .left))
+    (c .pair-refusal .ensures ∙ never-nine (tileOf (a .tile)) (a .tlut) (a .lane))
 
 pub key-refusal-spec : {M : Type 1} → statement M
 key-refusal-spec = tie.close (tie.spec returns returns-2 pair-refusal-requires returns-3)

@@ -26,7 +26,8 @@ same-length c = search needs
 returns : tie.Need-returns
 returns c =
     let i = c .before .before .before .before in
-    lookup-notes _ _ _ _ _ _ (i .before .before .before .before .pre .1 .0) (sym (i .before .from-tile .ensures .0) ∙ i .if1 .taken) (c .before .before .note-lookup .ensures)
+    lookup-notes _ _ _ _ _ _ (i .before .before .before .before .pre .1 .0) (sym (i .before .from-tile .ensures .0) ∙ i .if1 .taken)
+    (c .before .before .note-lookup .ensures)
 
 note-plain-requires : tie.Need-note-plain-requires
 note-plain-requires c κs =
@@ -40,7 +41,8 @@ same-length-2 c = search needs
 returns-2 : tie.Need-returns-2
 returns-2 c =
     let i = c .before .before .before .before in
-    plain-notes _ _ _ _ _ _ (i .before .before .before .before .pre .1 .0) (sym (i .before .from-tile .ensures .0) ∙ i .if1 .left) (c .before .before .note-plain .ensures)
+    plain-notes _ _ _ _ _ _ (i .before .before .before .before .pre .1 .0) (sym (i .before .from-tile .ensures .0) ∙ i .if1 .left)
+    (c .before .before .note-plain .ensures)
 
 pub note-picture-spec : {M : Type 1} → statement M
 note-picture-spec =

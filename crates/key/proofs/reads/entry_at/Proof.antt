@@ -10,7 +10,8 @@ use Rattle.key.proofs.reads.entry_at.Statement.{statement}
 use Rattle.key.proofs.reads.entry_at.Tie as tie
 
 -- the index is the rule's, and below 256
-index-is : (c : tie.After-palette-index) → let a = c .before .before .args in c .palette-index .result ≡ index (tileOf (a .tile)) (a .x) (a .byte)
+index-is : (c : tie.After-palette-index) → let a = c .before .before .args in
+    c .palette-index .result ≡ index (tileOf (a .tile)) (a .x) (a .byte)
 index-is c =
     let a = c .before .before .args in
     rw (c .before .index-part .ensures, by-part (tileOf (a .tile)) (a .x) (a .byte)) at (c .palette-index .ensures)
@@ -18,7 +19,9 @@ index-is c =
 small : (c : tie.After-palette-index) → c .palette-index .result < 256
 small c =
     let s = c .before .before in
-    rw (c .palette-index .ensures) (part-small (c .before .index-part .result) (s .args .tile .palette) (s .args .x) (s .args .byte) (s .pre .0 .palette) (omega arith))
+    let a = s .args in
+    rw (c .palette-index .ensures)
+    (part-small (c .before .index-part .result) (a .tile .palette) (a .x) (a .byte) (s .pre .0 .palette) (omega arith))
 
 index-part-requires : tie.Need-index-part-requires
 index-part-requires c κs = search needs

@@ -1,5 +1,5 @@
 -- `key::rows::note_plain` notes its rows one after the other, 256 of them at most. Assumes nothing.
-use mathlib.Core.Path.{_≡_, refl, sym, _∙_}
+use mathlib.Core.Path.{_≡_, refl, _∙_}
 use Prim.Native.Nat.{_-_, _≤_, min}
 use native.Mathlib.Omega.{arith}
 use borrow.Author.Needs.{needs}

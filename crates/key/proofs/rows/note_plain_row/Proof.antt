@@ -1,6 +1,6 @@
 -- `key::rows::note_plain_row` notes its row texel by texel: so far, what the first x texels read. Assumes nothing.
-use mathlib.Core.Path.{_≡_, refl, sym, _∙_}
-use Prim.Native.Nat.{ℕ, _+_, _-_, _≤_, _<_}
+use mathlib.Core.Path.{_≡_, refl, _∙_}
+use Prim.Native.Nat.{_+_, _-_, _≤_, _<_}
 use native.Mathlib.Omega.{arith}
 use borrow.Author.Needs.{needs}
 use lib.ListN.{length}
@@ -27,7 +27,10 @@ near : (c : tie.After-column Inv-loop μ-loop) → c .before .before .before .be
 near c =
     let r = c .before .before .before .before in
     let a = r .before .before .before in
-    omega (arith, r .row-start .ensures, row-start-le (tileOf (a .args .tile)) (a .args .y) (a .pre .1 .0 .line), c .column .ensures, column-le (tileOf (a .args .tile)) (a .args .tlut) (c .before .before .before .loop .x), a .pre .1 .0 .width)
+    let t = tileOf (a .args .tile) in
+    let start = row-start-le t (a .args .y) (a .pre .1 .0 .line) in
+    let col = column-le t (a .args .tlut) (c .before .before .before .loop .x) in
+    omega (arith, r .row-start .ensures, start, c .column .ensures, col, a .pre .1 .0 .width)
 
 row-start-requires : tie.Need-row-start-requires Inv-loop μ-loop
 row-start-requires c κs = search needs

@@ -1,5 +1,4 @@
 -- `stored_answers::buffers::digest_on` goes on while the place is inside the slice. Assumes nothing.
-use mathlib.Core.Path.{_≡_}
 use Prim.Native.Nat.{_≤_, _-_}
 use borrow.Author.Needs.{needs}
 use lib.ListN.{length}

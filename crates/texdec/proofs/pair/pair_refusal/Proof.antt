@@ -28,7 +28,8 @@ returns : tie.Need-returns
 returns c =
     let a = c .before .before .args in
     let t = samplingTests (tileOf (a .tile)) (a .tlut) in
-    first-before t (badLane (a .lane) ∷ badPair (tileOf (a .tile)) (a .tlut) ∷ []) _ (numbered t refl) (c .before .tile-and-mode-refusal .ensures) (c .if1 .taken)
+    first-before t (badLane (a .lane) ∷ badPair (tileOf (a .tile)) (a .tlut) ∷ []) _ (numbered t refl)
+    (c .before .tile-and-mode-refusal .ensures) (c .if1 .taken)
 
 lane-outside-requires : tie.Need-lane-outside-requires
 lane-outside-requires c κs = search needs
@@ -38,7 +39,8 @@ returns-2 c =
     let l = c .before in
     let t = l .before in
     let a = t .before .before .args in
-    answer (tileOf (a .tile)) (a .tlut) (a .lane) _ true _ (t .before .tile-and-mode-refusal .ensures) (t .if1 .left) (sym (l .lane-outside .ensures) ∙ c .if2 .taken) refl
+    answer (tileOf (a .tile)) (a .tlut) (a .lane) _ true _ (t .before .tile-and-mode-refusal .ensures) (t .if1 .left)
+    (sym (l .lane-outside .ensures) ∙ c .if2 .taken) refl
 
 validate-tlut-requires : tie.Need-validate-tlut-requires
 validate-tlut-requires c κs = search needs

@@ -3,7 +3,6 @@ use borrow.Author.Tests.{ne-eqb}
 use borrow.Author.Needs.{needs}
 use Rattle.texdec.proofs.palette.palette_index.Statement.{statement}
 use Rattle.texdec.proofs.palette.palette_index.Tie as tie
-use Rattle.texdec.proofs.nibble.nibble.Reads as nibble-reads
 
 mul-result : tie.Need-mul-result
 mul-result c = search needs

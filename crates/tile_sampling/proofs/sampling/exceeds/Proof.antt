@@ -1,6 +1,6 @@
 -- `tile_sampling::sampling::exceeds` compares the size with 2^mask: above 31 it exceeds every number of 32 bits, and up
 -- to 31 the shift loses nothing. Assumes nothing.
-use mathlib.Core.Path.{_≡_, sym}
+use mathlib.Core.Path.{sym}
 use Prim.Native.Nat.{ℕ, _<_, _≤_, _^_, _*_, _%_, max}
 use native.Mathlib.Omega.{arith}
 use lib.Pow.{pow-mono}

@@ -22,7 +22,8 @@ returns c =
     let k = c .before .before .before .before in
     let t = k .before .before .before in
     let a = t .before .before .before .before .args in
-    k .sample-tile-lane-observed .ensures ∙ ap (λ t. sampleTileObservedCall (a .bank .now) t (a .mode) (a .lane) (a .picture .now) (a .trail .now)) (t .tile-from .ensures)
+    k .sample-tile-lane-observed .ensures
+    ∙ ap (λ t. sampleTileObservedCall (a .bank .now) t (a .mode) (a .lane) (a .picture .now) (a .trail .now)) (t .tile-from .ensures)
 
 pub tk-sample-tile-observed-spec : {M : Type 1} → statement M
 tk-sample-tile-observed-spec =

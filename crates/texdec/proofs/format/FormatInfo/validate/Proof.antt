@@ -23,11 +23,13 @@ returns-2 c = rw (c .match .keys2) (by-size 2 (λ s. leb s 3) refl refl refl ref
 
 returns-3 : tie.Need-returns-3
 unfolding acceptedDirect any
-returns-3 c = rw (c .match .keys3) (by-size 3 (λ s. leb s 2) refl refl refl refl (λ n h. lt-leb n 2 (omega arith)) (c .before .args .self .siz))
+returns-3 c =
+    rw (c .match .keys3) (by-size 3 (λ s. leb s 2) refl refl refl refl (λ n h. lt-leb n 2 (omega arith)) (c .before .args .self .siz))
 
 returns-4 : tie.Need-returns-4
 unfolding acceptedDirect any
-returns-4 c = rw (c .match .keys4) (by-size 4 (λ s. leb s 1) refl refl refl refl (λ n h. lt-leb n 1 (omega arith)) (c .before .args .self .siz))
+returns-4 c =
+    rw (c .match .keys4) (by-size 4 (λ s. leb s 1) refl refl refl refl (λ n h. lt-leb n 1 (omega arith)) (c .before .args .self .siz))
 
 returns-5 : tie.Need-returns-5
 unfolding acceptedDirect any
