@@ -1,5 +1,5 @@
 -- Every public call, on every input: its refusals in order, its answer, and the lent buffers as it leaves them.
-use mathlib.Core.Bool.{Bool, true, false, cond, not, _||_}
+use mathlib.Core.Bool.{Bool, not, _||_}
 use mathlib.Core.List.{List, [], _∷_}
 use Prim.Native.Nat.{ℕ, _*_, _/_}
 use lib.Dec.{eqb, ltb}

@@ -1,5 +1,5 @@
 -- The key: the bank with every byte that its picture reads kept and all others zero.
-use mathlib.Core.Bool.{Bool, true, false, cond}
+use mathlib.Core.Bool.{cond}
 use mathlib.Core.List.{List}
 use Prim.Native.Nat.{ℕ, _-_, _*_, _<_}
 use lib.ListN.{getD, set, take, drop}

@@ -2,7 +2,7 @@
 -- "Fields not named are 0, the bank is fresh." `Rattle.rules.proofs.Worked` proves every row.
 use mathlib.Core.Bool.{Bool, true, false, cond}
 use mathlib.Core.List.{List, [], _∷_, _++_}
-use Prim.Native.Nat.{ℕ, zero, suc, _+_}
+use Prim.Native.Nat.{ℕ, _+_}
 use lib.Dec.{eqb}
 use lib.ListN.{set, replicate, take, drop}
 use Rattle.rules.specs.Base.{one, tab}
