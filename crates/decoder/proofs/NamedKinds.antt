@@ -27,7 +27,8 @@ module _ (t : Tile) (mode kind : ℕ) (k : kind ≡ kindOf t mode) where
 
   -- without one the kinds are the places of the known formats, of which 17 is the last
   pub last : mode < 2 → InRange t → stepKnows mode (t .fmt) (t .siz) ≡ true
-      → (((((((((Unit {0} × Not kind 2) × Not kind 3) × Not kind 8) × Not kind 9) × Not kind 10) × Not kind 11) × Not kind 12) × Not kind 13) × Not kind 14) × Not kind 16
+      → (((((((((Unit {0} × Not kind 2) × Not kind 3) × Not kind 8) × Not kind 9) × Not kind 10)
+      × Not kind 11) × Not kind 12) × Not kind 13) × Not kind 14) × Not kind 16
       → kind ≡ 17
   unfolding readsEach
   last m i h r = go (ℕ-discrete kind 17)
