@@ -3,7 +3,7 @@
 use mathlib.Core.Path.{_≡_, refl, ap, _∙_}
 use mathlib.Core.Bool.{Bool, true, false, cond, _&&_}
 use mathlib.Core.List.{List}
-use Prim.Native.Nat.{ℕ, zero, suc, _+_, _*_, _/_, _%_, _≤_}
+use Prim.Native.Nat.{ℕ, zero, suc, _+_, _*_, _/_, _%_}
 use native.Mathlib.Nat.{mul-comm, mul-left-comm}
 use native.Mathlib.Omega.{arith}
 use lib.Dec.{eqb}
@@ -11,8 +11,8 @@ use lib.ListN.{length}
 use Rattle.rules.specs.Base.{odd}
 use Rattle.rules.specs.Reading.{Reading, trail, upTo}
 use Rattle.rules.specs.Tile.{Tile}
-use Rattle.rules.specs.Texdec.{formatOf, tlut}
-use Rattle.rules.specs.Picture.{texel, rowStart, column, readsEach, formatReads, plain, plainRow, lookup, lookupRow}
+use Rattle.rules.specs.Texdec.{tlut}
+use Rattle.rules.specs.Picture.{texel, rowStart, column, readsEach, plain, plainRow, lookup, lookupRow}
 use Rattle.rules.proofs.Readings.{trail-length}
 use Rattle.decoder.specs.Rows.{scaleOf, rowAt, rowTexel, rowOf, rowsOf}
 use Rattle.decoder.specs.Asked.{readingBy, texelsBy, widthBy, rowsBy}

@@ -7,7 +7,6 @@ use Rattle.rules.specs.Picture.{texel, readsEach}
 use Rattle.rules.specs.Reading.{given, trail}
 use Rattle.rules.specs.Base.{over}
 use lib.ListN.{take}
-use native.Mathlib.Omega.{arith}
 use mathlib.Core.Path.{_≡_}
 use borrow.Author.Needs.{needs}
 use Rattle.decoder.proofs.rows.put_texel.Statement.{statement}
