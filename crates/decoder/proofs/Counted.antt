@@ -3,7 +3,7 @@
 use mathlib.Core.Path.{_≡_, refl, ap, _∙_}
 use mathlib.Core.Bool.{Bool, true, false, cond, _&&_}
 use mathlib.Core.List.{List}
-use Prim.Native.Nat.{ℕ, zero, suc, _+_, _*_, _/_, _%_, _≤_}
+use Prim.Native.Nat.{ℕ, zero, suc, _+_, _*_, _/_, _%_}
 use native.Mathlib.Nat.{mul-comm, mul-left-comm}
 use native.Mathlib.Omega.{arith}
 use lib.Dec.{eqb}
@@ -11,8 +11,8 @@ use lib.ListN.{length}
 use Rattle.rules.specs.Base.{odd}
 use Rattle.rules.specs.Reading.{Reading, trail, upTo}
 use Rattle.rules.specs.Tile.{Tile}
-use Rattle.rules.specs.Texdec.{formatOf, tlut}
-use Rattle.rules.specs.Picture.{texel, rowStart, column, readsEach, formatReads, plain, plainRow, lookup, lookupRow}
+use Rattle.rules.specs.Texdec.{tlut}
+use Rattle.rules.specs.Picture.{texel, rowStart, column, readsEach, plain, plainRow, lookup, lookupRow}
 use Rattle.rules.proofs.Readings.{trail-length}
 use Rattle.decoder.specs.Rows.{scaleOf, rowAt, rowTexel, rowOf, rowsOf}
 use Rattle.decoder.specs.Asked.{readingBy, texelsBy, widthBy, rowsBy}
@@ -49,7 +49,8 @@ module _ (t : Tile) (mode lane y i : ℕ) where
   unfolding rowTexel
   plain-texel = let x : 0 + i * 1 ≡ i = omega arith in rw (column-scaled t mode i, x)
 
-pub reading-by : (looked : Bool) (t : Tile) (mode lane : ℕ) → rowsOf looked t mode lane (widthBy looked t) (rowsBy looked t) ≡ readingBy looked t mode lane
+pub reading-by : (looked : Bool) (t : Tile) (mode lane : ℕ)
+    → rowsOf looked t mode lane (widthBy looked t) (rowsBy looked t) ≡ readingBy looked t mode lane
 unfolding rowsOf rowOf lookup lookupRow plain plainRow
 reading-by true t mode lane = same-rows 4 _ _ (λ y. same-rows 4096 _ _ (λ i. lookup-texel t mode lane y i))
 reading-by false t mode lane = same-rows (t .height) _ _ (λ y. same-rows (t .width) _ _ (λ i. plain-texel t mode lane y i))
@@ -59,8 +60,10 @@ rows-count : (looked : Bool) (t : Tile) (mode lane : ℕ) (bank : List ℕ) (wid
 unfolding rowsOf rowOf
 rows-count looked t mode lane bank width rows =
     trail-length (λ y. rowOf t mode lane width (rowAt looked t mode y)) bank (width * readsEach t mode) rows
-    (λ y. trail-length (rowTexel t mode lane (rowAt looked t mode y)) bank (readsEach t mode) width (λ i. row-reads t mode lane (rowAt looked t mode y) i bank))
-    ∙ rw (mul-comm width (readsEach t mode)) (mul-left-comm rows (readsEach t mode) width ∙ ap (λ n. readsEach t mode * n) (mul-comm rows width))
+    (λ y. trail-length (rowTexel t mode lane (rowAt looked t mode y)) bank (readsEach t mode) width
+    (λ i. row-reads t mode lane (rowAt looked t mode y) i bank))
+    ∙ rw (mul-comm width (readsEach t mode))
+    (mul-left-comm rows (readsEach t mode) width ∙ ap (λ n. readsEach t mode * n) (mul-comm rows width))
 
 -- the reads of a picture
 pub reads-count : (looked : Bool) (t : Tile) (mode lane : ℕ) (bank : List ℕ)

@@ -34,7 +34,8 @@ Not n k = n ≡ k → ⊥
 
 -- at a place that is none of those listed no known format stands
 pub unlisted : (n : ℕ)
-    → ((((((((((Unit {0} × Not n 2) × Not n 3) × Not n 8) × Not n 9) × Not n 10) × Not n 11) × Not n 12) × Not n 13) × Not n 14) × Not n 16) × Not n 17
+    → ((((((((((Unit {0} × Not n 2) × Not n 3) × Not n 8) × Not n 9) × Not n 10) × Not n 11)
+    × Not n 12) × Not n 13) × Not n 14) × Not n 16) × Not n 17
     → formatReads (formatAt n) ≡ 0
 unfolding mem
 unlisted n r =

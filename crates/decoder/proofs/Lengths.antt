@@ -10,7 +10,8 @@ use lib.ListN.{length, getD, take}
 use borrow.Author.Tests.{le-leb, lt-leb}
 use Rattle.rules.specs.Reading.{given, trail}
 use Rattle.rules.specs.Tile.{Tile}
-use Rattle.rules.specs.Texdec.{Format, rgba16, rgba32, ci4, ci8, ci16, ia4, ia8, ia16, i4, i8, unknown, formatOf, known, tlut, stepKnows, entryOf, rgba16Texel, ia16Texel}
+use Rattle.rules.specs.Texdec.{Format, rgba16, rgba32, ci4, ci8, ci16, ia4, ia8, ia16, i4, i8, unknown, formatOf}
+use Rattle.rules.specs.Texdec.{known, tlut, stepKnows, entryOf, rgba16Texel, ia16Texel}
 use Rattle.rules.specs.Picture.{address, direct, index, entryAt, paletted, texel, formatReads, readsEach}
 use Rattle.rules.proofs.Formats.{texel-tlut, texel-direct, direct-four}
 use Rattle.decoder.specs.Rows.{four, trailStep}
@@ -47,7 +48,9 @@ module _ (t : Tile) (mode lane : ℕ) (odd : Bool) (rel x : ℕ) (bank : List �
   texel-four h = go (decLt mode 2)
     where
       go : Dec (mode < 2) → length (given (texel t mode lane odd rel x) bank) ≡ 4
-      go (yes p) = rw (texel-direct t mode lane odd rel x p) (direct-four (formatOf (t .fmt) (t .siz)) _ _ odd rel x bank (rw (lt-leb 2 mode p) at h))
+      go (yes p) =
+          rw (texel-direct t mode lane odd rel x p)
+          (direct-four (formatOf (t .fmt) (t .siz)) _ _ odd rel x bank (rw (lt-leb 2 mode p) at h))
       go (no p) = let q : 2 ≤ mode = omega arith in rw (texel-tlut t mode lane odd rel x q) paletted-four
 
   pub texel-reads : length (trail (texel t mode lane odd rel x) bank) ≡ readsEach t mode

@@ -1,18 +1,15 @@
 -- The kind that is left when no other matched.
-use mathlib.Core.Path.{_≡_, refl, sym, ap, _∙_}
-use mathlib.Core.Bool.{Bool, true, false, not, cond, true≢false}
-use mathlib.Core.List.{List}
+use mathlib.Core.Path.{_≡_}
+use mathlib.Core.Bool.{Bool, true, false, cond, true≢false}
 use Prim.Native.Nat.{ℕ, _+_, _*_, _<_, _≤_}
 use native.Mathlib.Decide.{ℕ-discrete}
 use lib.Dec.{eqb}
 use borrow.Author.Tests.{le-leb, lt-leb}
 use Rattle.rules.specs.Tile.{Tile, InRange}
 use Rattle.rules.specs.Texdec.{stepKnows}
-use Rattle.rules.specs.Picture.{formatReads, readsEach}
-use Rattle.decoder.specs.Steps.{formatAt, kindOf}
+use Rattle.rules.specs.Picture.{readsEach}
+use Rattle.decoder.specs.Steps.{kindOf}
 use Rattle.decoder.proofs.Formats.{Not, placed, unlisted}
-use Rattle.decoder.specs.declared.plan.Plan.{Plan}
-use Rattle.decoder.specs.Rows.{Ready}
 use Rattle.decoder.proofs.Lengths.{reads-none}
 
 module _ (t : Tile) (mode kind : ℕ) (k : kind ≡ kindOf t mode) where
@@ -27,7 +24,8 @@ module _ (t : Tile) (mode kind : ℕ) (k : kind ≡ kindOf t mode) where
 
   -- without one the kinds are the places of the known formats, of which 17 is the last
   pub last : mode < 2 → InRange t → stepKnows mode (t .fmt) (t .siz) ≡ true
-      → (((((((((Unit {0} × Not kind 2) × Not kind 3) × Not kind 8) × Not kind 9) × Not kind 10) × Not kind 11) × Not kind 12) × Not kind 13) × Not kind 14) × Not kind 16
+      → (((((((((Unit {0} × Not kind 2) × Not kind 3) × Not kind 8) × Not kind 9) × Not kind 10)
+      × Not kind 11) × Not kind 12) × Not kind 13) × Not kind 14) × Not kind 16
       → kind ≡ 17
   unfolding readsEach
   last m i h r = go (ℕ-discrete kind 17)

@@ -8,18 +8,22 @@ use Rattle.decoder.proofs.picture.sample_tile_lane_observed.Reads as sa
 use Rattle.decoder.proofs.picture.sampling_lookup_lane.Reads as sampling-lookup-lane
 use Rattle.decoder.proofs.picture.sampling_lookup_lane_observed.Reads as sampling-lookup-lane-observed
 
-pub sample-tile-lane-one : (w : _) (a : _) (r s : _) (e f : _) → sample-tile-lane.Post w a r e → sample-tile-lane.Post w a s f
+pub sample-tile-lane-one : (w : _) (a : _) (r s : _) (e f : _)
+    → sample-tile-lane.Post w a r e → sample-tile-lane.Post w a s f
     → (r ≡ s) × (now (e .1 .1 .1 .1 .0) ∷ [] ≡ now (f .1 .1 .1 .1 .0) ∷ [])
 sample-tile-lane-one w a r s e f p q = answered-determined _ r s _ _ p q
 
-pub sample-tile-lane-observed-one : (w : _) (a : _) (r s : _) (e f : _) → sample-tile-lane-observed.Post w a r e → sample-tile-lane-observed.Post w a s f
+pub sample-tile-lane-observed-one : (w : _) (a : _) (r s : _) (e f : _)
+    → sample-tile-lane-observed.Post w a r e → sample-tile-lane-observed.Post w a s f
     → (r ≡ s) × (now (e .1 .1 .1 .1 .0) ∷ now (e .1 .1 .1 .1 .1 .0) ∷ [] ≡ now (f .1 .1 .1 .1 .0) ∷ now (f .1 .1 .1 .1 .1 .0) ∷ [])
 sample-tile-lane-observed-one w a r s e f p q = answered-determined _ r s _ _ p q
 
-pub sampling-lookup-lane-one : (w : _) (a : _) (r s : _) (e f : _) → sampling-lookup-lane.Post w a r e → sampling-lookup-lane.Post w a s f
+pub sampling-lookup-lane-one : (w : _) (a : _) (r s : _) (e f : _)
+    → sampling-lookup-lane.Post w a r e → sampling-lookup-lane.Post w a s f
     → (r ≡ s) × (now (e .1 .1 .1 .1 .0) ∷ [] ≡ now (f .1 .1 .1 .1 .0) ∷ [])
 sampling-lookup-lane-one w a r s e f p q = answered-determined _ r s _ _ p q
 
-pub sampling-lookup-lane-observed-one : (w : _) (a : _) (r s : _) (e f : _) → sampling-lookup-lane-observed.Post w a r e → sampling-lookup-lane-observed.Post w a s f
+pub sampling-lookup-lane-observed-one : (w : _) (a : _) (r s : _) (e f : _)
+    → sampling-lookup-lane-observed.Post w a r e → sampling-lookup-lane-observed.Post w a s f
     → (r ≡ s) × (now (e .1 .1 .1 .1 .0) ∷ now (e .1 .1 .1 .1 .1 .0) ∷ [] ≡ now (f .1 .1 .1 .1 .0) ∷ now (f .1 .1 .1 .1 .1 .0) ∷ [])
 sampling-lookup-lane-observed-one w a r s e f p q = answered-determined _ r s _ _ p q

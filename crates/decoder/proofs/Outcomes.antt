@@ -21,7 +21,8 @@ use Rattle.decoder.proofs.Counted.{reading-by, reads-count}
 firstAlone : Outcome → Outcome
 firstAlone o = record { refusal = o .refusal; numbers = o .numbers; buffers = take 1 (o .buffers) }
 
-settled-alone : (n : ℕ) (numbers a b c d : List ℕ) → firstAlone (settle n numbers (a ∷ b ∷ []) (c ∷ d ∷ [])) ≡ settle n numbers (a ∷ []) (c ∷ [])
+settled-alone : (n : ℕ) (numbers a b c d : List ℕ)
+    → firstAlone (settle n numbers (a ∷ b ∷ []) (c ∷ d ∷ [])) ≡ settle n numbers (a ∷ []) (c ∷ [])
 unfolding settle firstAlone
 settled-alone zero numbers a b c d = refl
 settled-alone (suc n) numbers a b c d = refl

@@ -1,6 +1,6 @@
 -- Laws of the rows: what a texel at its place gives and tells, and the bytes of a row.
-use mathlib.Core.Path.{_≡_, refl, ap, sym, _∙_}
-use mathlib.Core.Bool.{Bool, true}
+use mathlib.Core.Path.{_≡_, ap, sym, _∙_}
+use mathlib.Core.Bool.{true}
 use mathlib.Core.List.{List}
 use Prim.Native.Nat.{ℕ, _*_}
 use native.Mathlib.Nat.{le-refl}
@@ -48,7 +48,8 @@ module _ (p : Plan) (bank : List ℕ) (r : Row) (n : ℕ) where
   row-given h = given-parts (oneTexel p r) bank n 4 (λ i. row-four _ _ _ r i bank h)
 
   pub row-told : p .step ≡ trailStep (p .observe) (tileOf (p .tile)) (p .«tlut_fmt»)
-      → Parts n (λ i. told (p .observe) (trail (oneTexel p r i) bank)) (λ i. told (p .observe) (trail (upTo i (oneTexel p r)) bank)) (p .step)
+      → Parts n (λ i. told (p .observe) (trail (oneTexel p r i) bank))
+      (λ i. told (p .observe) (trail (upTo i (oneTexel p r)) bank)) (p .step)
   row-told e =
       told-parts (p .observe) (oneTexel p r) bank n (p .step)
       (λ i. told-length (p .observe) _ _ (row-reads _ _ (p .lane) r i bank) ∙ sym e)
@@ -63,7 +64,8 @@ module _ (p : Plan) (bank : List ℕ) (row : ℕ → Row) (n : ℕ) where
       (λ y. length-whole (row-given p bank (row y) (p .width) h) (p .width) (le-refl (p .width)))
 
   pub rows-told : p .step ≡ trailStep (p .observe) (tileOf (p .tile)) (p .«tlut_fmt»)
-      → Parts n (λ y. told (p .observe) (trail (oneRow p (row y)) bank)) (λ y. told (p .observe) (trail (upTo y (λ k. oneRow p (row k))) bank)) (p .step * p .width)
+      → Parts n (λ y. told (p .observe) (trail (oneRow p (row y)) bank))
+      (λ y. told (p .observe) (trail (upTo y (λ k. oneRow p (row k))) bank)) (p .step * p .width)
   unfolding rowOf
   rows-told e =
       told-parts (p .observe) (λ y. oneRow p (row y)) bank n (p .step * p .width)

@@ -1,6 +1,6 @@
 -- The first refusal: an early one, or what the tests of the buffers and of the unknown pair say.
 use mathlib.Core.Path.{_≡_, refl, sym, _∙_}
-use mathlib.Core.Bool.{Bool, true, false, cond, not, _&&_, _||_}
+use mathlib.Core.Bool.{Bool, true, false, cond, not, _&&_}
 use mathlib.Core.List.{List, [], _∷_, _++_}
 use Prim.Native.Nat.{ℕ, _*_, _/_}
 use lib.Dec.{eqb, ltb}
@@ -38,13 +38,16 @@ module _ (observe looked : Bool) (bank : List ℕ) (t : Tile) (mode lane : ℕ) 
   late-first texels each et ee = rw (ee, et, ← reads-count looked t mode lane bank, reads-none t mode) (go observe)
     where
       go : (b : Bool)
-          → cond (ltb (length out) (4 * texelsBy looked t)) 6 (cond (b && ltb (length seen / 2) (length (trail (readingBy looked t mode lane) bank))) 7 (cond (not (stepKnows mode (t .fmt) (t .siz))) 9 0))
+          → cond (ltb (length out) (4 * texelsBy looked t)) 6
+          (cond (b && ltb (length seen / 2) (length (trail (readingBy looked t mode lane) bank))) 7
+          (cond (not (stepKnows mode (t .fmt) (t .siz))) 9 0))
           ≡ first (late b looked bank t mode lane out seen)
       go true = refl
       go false = refl
 
   -- an early refusal is the call's
-  pub refusal-early : (n : ℕ) → n ≡ first (earlyTests bank t mode lane) → (n ≡ 0 → ⊥) → n ≡ first (testsBy observe looked bank t mode lane out seen)
+  pub refusal-early : (n : ℕ) → n ≡ first (earlyTests bank t mode lane) → (n ≡ 0 → ⊥)
+      → n ≡ first (testsBy observe looked bank t mode lane out seen)
   refusal-early n e h = rw whole (first-before (earlyTests bank t mode lane) _ n (numbered (earlyTests bank t mode lane) refl) e h)
 
   -- where there is none, the tests of the buffers decide
@@ -52,4 +55,5 @@ module _ (observe looked : Bool) (bank : List ℕ) (t : Tile) (mode lane : ℕ) 
       → cond (ltb (length out) (4 * texels)) 6 (cond (observe && ltb (length seen / 2) (each * texels)) 7 (cond (eqb each 0) 9 0))
       ≡ first (testsBy observe looked bank t mode lane out seen)
   refusal-late texels each e et ee =
-      rw whole (late-first texels each et ee ∙ sym (first-after (earlyTests bank t mode lane) _ (numbered (earlyTests bank t mode lane) refl) e))
+      rw whole (late-first texels each et ee
+      ∙ sym (first-after (earlyTests bank t mode lane) _ (numbered (earlyTests bank t mode lane) refl) e))

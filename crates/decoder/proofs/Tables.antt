@@ -1,6 +1,6 @@
 -- Laws of the table of entries: each texel once, and all that an index byte can stand for.
-use mathlib.Core.Path.{_≡_, refl, sym, _∙_}
-use mathlib.Core.Bool.{Bool, true, false, cond, _||_, false≢true}
+use mathlib.Core.Path.{_≡_, refl}
+use mathlib.Core.Bool.{Bool, true, false, cond}
 use mathlib.Core.List.{List, [], _∷_}
 use Prim.Native.Nat.{ℕ, _+_, _*_, _<_, _≤_}
 use native.Mathlib.Nat.{zero-add}
@@ -51,8 +51,10 @@ module _ (t : Tile) where
       go true = omega arith
       go false = omega arith
 
-  pub entries-all : (mode lane : ℕ) (bank table : List ℕ) → Filled mode lane bank (firstEntry t) table (entryCount t) → EntryTable t mode lane bank table
-  entries-all mode lane bank table f = record { at = λ x v h. go (nibble (cond (eqb (t .fmt) 1) 0 x) v) v (nibble-small (cond (eqb (t .fmt) 1) 0 x) v h) h (eqb (t .siz) 0) f }
+  pub entries-all : (mode lane : ℕ) (bank table : List ℕ) → Filled mode lane bank (firstEntry t) table (entryCount t)
+      → EntryTable t mode lane bank table
+  entries-all mode lane bank table f =
+      record { at = λ x v h. let y = cond (eqb (t .fmt) 1) 0 x in go (nibble y v) v (nibble-small y v h) h (eqb (t .siz) 0) f }
     where
       go : (n v : ℕ) → n < 16 → v < 256 → (b : Bool) → Filled mode lane bank (cond b (t .palette * 16) 0) table (cond b 16 256)
           → channels (getD table (cond b (t .palette * 16 + n) v) 0) ≡ entryGives mode lane bank (cond b (t .palette * 16 + n) v)

@@ -17,7 +17,8 @@ module _ (t : Tile) (mode lane : ℕ) (odd : Bool) (rel x : ℕ) where
   -- an index byte and the entry that it stands for make a texel
   pub paletted-is : (bank : List ℕ) (base i : ℕ) (l : Load) (channels : List ℕ) → base ≡ 8 * t .tmem-addr
       → l ≡ loadAt bank (address 2048 base odd rel) → i ≡ index t x (l .byte) → channels ≡ entryGives mode lane bank i
-      → Decodes (paletted t mode lane odd rel x) bank (record { channels = channels; reads = l .at ∷ entryAt i lane ∷ (entryAt i lane + 1) ∷ 0 ∷ []; count = 3 })
+      → Decodes (paletted t mode lane odd rel x) bank
+      (record { channels = channels; reads = l .at ∷ entryAt i lane ∷ (entryAt i lane + 1) ∷ 0 ∷ []; count = 3 })
   unfolding paletted given trail
   paletted-is bank base i l channels eb el ei e =
       rw (e, ei, el, eb) (record { channels = take-all _ _ (le-refl _); reads = refl; few = omega arith; full = refl })

@@ -1,7 +1,7 @@
 -- What holds of inputs that are not refused.
 use mathlib.Core.Path.{_≡_, refl}
 use mathlib.Core.Bool.{Bool, true, false}
-use mathlib.Core.List.{List, [], _∷_}
+use mathlib.Core.List.{List}
 use Prim.Native.Nat.{ℕ, _*_, _/_, _≤_}
 use native.Mathlib.Nat.{mul-assoc, zero-mul}
 use native.Mathlib.Omega.{arith}
@@ -29,7 +29,8 @@ pub record Early (bank : List ℕ) (t : Tile) (lane : ℕ) : Type 0 where
   pub tile : InRange t
   pub slot : lane ≤ 3
 
-early-of : (bank : List ℕ) (t : Tile) (lane : ℕ) → notBytes bankSize bank ≡ false → tileOutside t ≡ false → laneOutside lane ≡ false → Early bank t lane
+early-of : (bank : List ℕ) (t : Tile) (lane : ℕ) → notBytes bankSize bank ≡ false → tileOutside t ≡ false → laneOutside lane ≡ false
+    → Early bank t lane
 early-of bank t lane b o l = record { whole = eqb-true _ _ (not-false _ b); tile = in-range t o; slot = ltb-false _ _ l }
 
 pub early : (bank : List ℕ) (t : Tile) (mode lane : ℕ) → first (earlyTests bank t mode lane) ≡ 0 → Early bank t lane
@@ -62,7 +63,8 @@ unfolding Passed
 allowed true looked bank t mode lane out seen h =
     let p = passed (testsBy true looked bank t mode lane out seen) (numbered (testsBy true looked bank t mode lane out seen) refl) h in
     let late = p .1 .1 .1 .1 .1 in
-    let told : readsEach t mode * texelsBy looked t ≤ length seen / 2 = rw (reads-count looked t mode lane bank) at (ltb-false (length seen / 2) (length (trail (readingBy looked t mode lane) bank)) (late .1 .0)) in
+    let reads = ltb-false (length seen / 2) (length (trail (readingBy looked t mode lane) bank)) (late .1 .0) in
+    let told : readsEach t mode * texelsBy looked t ≤ length seen / 2 = rw (reads-count looked t mode lane bank) at reads in
     record {
       early = early-of bank t lane (p .0) (p .1 .0) (p .1 .1 .1 .0);
       knows = not-false _ (late .1 .1 .0);
@@ -81,8 +83,9 @@ allowed false looked bank t mode lane out seen h =
 
 -- and the plan of such a call is ready
 pub ready : (tile : TileDescriptor) (mode lane each : ℕ) (observe looked : Bool) (bank table out seen : List ℕ) (kind : ℕ)
-    → Allowed observe looked bank (tileOf tile) mode lane out seen → TexelTable (tileOf tile) mode lane bank table → kind ≡ kindOf (tileOf tile) mode
-    → each ≡ readsEach (tileOf tile) mode → Ready bank table (planBy tile mode lane looked observe each) kind
+    → Allowed observe looked bank (tileOf tile) mode lane out seen → TexelTable (tileOf tile) mode lane bank table
+    → kind ≡ kindOf (tileOf tile) mode → each ≡ readsEach (tileOf tile) mode
+    → Ready bank table (planBy tile mode lane looked observe each) kind
 ready tile mode lane each observe looked bank table out seen kind a tableIs kindIs e =
     let i = a .early .tile in
     record {

@@ -30,7 +30,8 @@ impl<'a> BankDecoder<'a> {
         out: &mut [u8],
         seen: &mut [u8],
     ) -> Answer
-        ensures { λ r. ⌜ answered r (now (out .exit) ∷ now (seen .exit) ∷ []) ≡ outcomeBy observe lookup (now (self .entry .bytes)) (tileOf tile) «tlut_fmt» lane (now (out .entry)) (now (seen .entry)) ⌝ }
+        ensures { λ r. ⌜ answered r (now (out .exit) ∷ now (seen .exit) ∷ [])
+            ≡ outcomeBy observe lookup (now (self .entry .bytes)) (tileOf tile) «tlut_fmt» lane (now (out .entry)) (now (seen .entry)) ⌝ }
     {
         decode_picture(self.bytes, tile, tlut_fmt, lane, lookup, observe, out, seen)
     }
@@ -47,7 +48,8 @@ pub(crate) fn picture_of(
     out: &mut [u8],
     seen: &mut [u8],
 ) -> Answer
-    ensures { λ r. ⌜ answered r (now (out .exit) ∷ now (seen .exit) ∷ []) ≡ outcomeBy observe lookup (now (bank .entry)) (tileOf tile) «tlut_fmt» lane (now (out .entry)) (now (seen .entry)) ⌝ }
+    ensures { λ r. ⌜ answered r (now (out .exit) ∷ now (seen .exit) ∷ [])
+        ≡ outcomeBy observe lookup (now (bank .entry)) (tileOf tile) «tlut_fmt» lane (now (out .entry)) (now (seen .entry)) ⌝ }
 {
     BankDecoder::new(bank).picture(tile, tlut_fmt, lane, lookup, observe, out, seen)
 }

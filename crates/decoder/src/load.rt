@@ -1,6 +1,6 @@
 // Reads of the bank, each with the address that it goes to.
 ghost use mathlib.Core.Path.{_≡_};
-ghost use Prim.Native.Nat.{_+_, _<_, _≤_};
+ghost use Prim.Native.Nat.{_+_, _≤_};
 ghost use lib.Bits.{bitAnd};
 ghost use lib.ListN.{getD};
 ghost use Rattle.rules.specs.Texdec.{entryOf};

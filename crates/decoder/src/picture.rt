@@ -33,7 +33,8 @@ pub fn sample_tile_lane(
     lane: u32,
     out: &mut [u8],
 ) -> Answer
-    ensures { λ r. ⌜ answered r (now (out .exit) ∷ []) ≡ sampleTileCall (now (bank .entry)) (tileOf tile) «tlut_fmt» lane (now (out .entry)) ⌝ }
+    ensures { λ r. ⌜ answered r (now (out .exit) ∷ [])
+        ≡ sampleTileCall (now (bank .entry)) (tileOf tile) «tlut_fmt» lane (now (out .entry)) ⌝ }
 {
     picture_alone(bank, tile, tlut_fmt, lane, false, out)
 }
@@ -47,7 +48,8 @@ pub fn sample_tile_lane_observed(
     out: &mut [u8],
     seen: &mut [u8],
 ) -> Answer
-    ensures { λ r. ⌜ answered r (now (out .exit) ∷ now (seen .exit) ∷ []) ≡ sampleTileObservedCall (now (bank .entry)) (tileOf tile) «tlut_fmt» lane (now (out .entry)) (now (seen .entry)) ⌝ }
+    ensures { λ r. ⌜ answered r (now (out .exit) ∷ now (seen .exit) ∷ [])
+        ≡ sampleTileObservedCall (now (bank .entry)) (tileOf tile) «tlut_fmt» lane (now (out .entry)) (now (seen .entry)) ⌝ }
 {
     picture_of(bank, tile, tlut_fmt, lane, false, true, out, seen)
 }
@@ -60,7 +62,8 @@ pub fn sampling_lookup_lane(
     lane: u32,
     out: &mut [u8],
 ) -> Answer
-    ensures { λ r. ⌜ answered r (now (out .exit) ∷ []) ≡ samplingLookupCall (now (bank .entry)) (tileOf tile) «tlut_fmt» lane (now (out .entry)) ⌝ }
+    ensures { λ r. ⌜ answered r (now (out .exit) ∷ [])
+        ≡ samplingLookupCall (now (bank .entry)) (tileOf tile) «tlut_fmt» lane (now (out .entry)) ⌝ }
 {
     picture_alone(bank, tile, tlut_fmt, lane, true, out)
 }
@@ -74,7 +77,8 @@ pub fn sampling_lookup_lane_observed(
     out: &mut [u8],
     seen: &mut [u8],
 ) -> Answer
-    ensures { λ r. ⌜ answered r (now (out .exit) ∷ now (seen .exit) ∷ []) ≡ samplingLookupObservedCall (now (bank .entry)) (tileOf tile) «tlut_fmt» lane (now (out .entry)) (now (seen .entry)) ⌝ }
+    ensures { λ r. ⌜ answered r (now (out .exit) ∷ now (seen .exit) ∷ [])
+        ≡ samplingLookupObservedCall (now (bank .entry)) (tileOf tile) «tlut_fmt» lane (now (out .entry)) (now (seen .entry)) ⌝ }
 {
     picture_of(bank, tile, tlut_fmt, lane, true, true, out, seen)
 }

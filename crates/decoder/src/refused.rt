@@ -40,7 +40,8 @@ pub(crate) fn first_refusal(
     out: &[u8],
     seen: &[u8],
 ) -> u32
-    ensures { λ r. ⌜ r ≡ first (testsBy observe lookup (now (bank .entry)) (tileOf tile) «tlut_fmt» lane (now (out .entry)) (now (seen .entry))) ⌝ }
+    ensures { λ r. ⌜ r
+        ≡ first (testsBy observe lookup (now (bank .entry)) (tileOf tile) «tlut_fmt» lane (now (out .entry)) (now (seen .entry))) ⌝ }
 {
     let early = early_refusal(bank, tile, tlut_fmt, lane);
     if early != 0 {

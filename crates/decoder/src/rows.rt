@@ -57,7 +57,8 @@ fn put_texel(
     requires { ⌜ 4 ≤ length (now out) ⌝ }
     requires { ⌜ plan .step ≤ length (now seen) ⌝ }
     ensures { λ _. ⌜ now (out .exit) ≡ over (given (oneTexel plan row i) (now (bank .entry))) (now (out .entry)) ⌝ }
-    ensures { λ _. ⌜ now (seen .exit) ≡ over (told (plan .observe) (trail (oneTexel plan row i) (now (bank .entry)))) (now (seen .entry)) ⌝ }
+    ensures { λ _. ⌜ now (seen .exit)
+        ≡ over (told (plan .observe) (trail (oneTexel plan row i) (now (bank .entry)))) (now (seen .entry)) ⌝ }
 {
     let rel = row.rel(i);
     let x = row.x(i);

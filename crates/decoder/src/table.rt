@@ -21,7 +21,8 @@ use tmem::bank::Bank;
 // The channels of the entry at an address.
 fn load_palette_entry(bank: &[u8], at: usize, tlut_fmt: u32) -> [u8; 4]
     requires { ⌜ at < 68719476736 ⌝ }
-    ensures { λ r. ⌜ r ≡ given (entryTexel «tlut_fmt» (getD (now (bank .entry)) at 0) (getD (now (bank .entry)) (at + 1) 0)) (now (bank .entry)) ⌝ }
+    ensures { λ r. ⌜ r
+        ≡ given (entryTexel «tlut_fmt» (getD (now (bank .entry)) at 0) (getD (now (bank .entry)) (at + 1) 0)) (now (bank .entry)) ⌝ }
 {
     let entry = entry_of(byte_at(bank, at), byte_at(bank, at + 1));
     if tlut_fmt == 2 {

@@ -20,7 +20,9 @@ fn note_read(at: usize, seen: &mut [u8])
 fn note_one(reads: [usize; 4], count: usize, i: usize, seen: &mut [u8])
     requires { ⌜ (count ≤ 4) × (length reads ≡ 4) ⌝ }
     requires { ⌜ 2 * count ≤ length (now seen) ⌝ }
-    ensures { λ _. ⌜ ((old : List ℕ) → 2 * count ≤ length old → now (seen .entry) ≡ over (encoded (take (capped i count) reads)) old → now (seen .exit) ≡ over (encoded (take (capped (i + 1) count) reads)) old) ⌝ }
+    ensures { λ _. ⌜ ((old : List ℕ) → 2 * count ≤ length old
+        → now (seen .entry) ≡ over (encoded (take (capped i count) reads)) old
+        → now (seen .exit) ≡ over (encoded (take (capped (i + 1) count) reads)) old) ⌝ }
 {
     if i < count {
         let s = 2 * i;

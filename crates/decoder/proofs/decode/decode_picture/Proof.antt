@@ -42,7 +42,8 @@ same-length-2 c = search needs
 returns : tie.Need-returns
 returns c =
     let a = c .before .before .before .before .before .before .before .args in
-    refused (a .lookup) (a .bank .now) (tileOf (a .tile)) (a .«tlut-fmt») (a .lane) (a .out .now) (a .seen .now) (a .observe) _ (c .before .first-refusal .ensures) (c .if1 .taken)
+    refused (a .lookup) (a .bank .now) (tileOf (a .tile)) (a .«tlut-fmt») (a .lane) (a .out .now) (a .seen .now) (a .observe) _
+    (c .before .first-refusal .ensures) (c .if1 .taken)
 
 tile-reads-requires : tie.Need-tile-reads-requires
 tile-reads-requires c κs = may c .early .tile
@@ -68,7 +69,8 @@ decode-rows-requires c κs =
     let w = may (l .before .before .before) in
     let reads = each (l .before) in
     rw (l .plan-of .ensures) (
-      ready _ _ _ _ _ _ _ _ _ _ _ w (c .before .before .before .before .texel-table .ensures) (c .before .before .before .kind-of .ensures) reads,
+      ready _ _ _ _ _ _ _ _ _ _ _ w (c .before .before .before .before .texel-table .ensures)
+          (c .before .before .before .kind-of .ensures) reads,
       (w .room, rw reads (w .trail-room)),
     )
 
@@ -87,7 +89,8 @@ returns-2 c =
     let l = d .before .before .before .before .before .before in
     let n = l .before in
     let a = n .before .before .before .before .before .before .before .before .before .args in
-    done (a .lookup) (a .bank .now) (tileOf (a .tile)) (a .«tlut-fmt») (a .lane) (a .out .now) (a .seen .now) (a .observe) _ _ _ (none (n .before .before))
+    done (a .lookup) (a .bank .now) (tileOf (a .tile)) (a .«tlut-fmt») (a .lane) (a .out .now) (a .seen .now) (a .observe) _ _ _
+    (none (n .before .before))
     (rw (each n, n .texel-count .ensures .0))
     (rw (l .plan-of .ensures) at (d .decode-rows .ensures .0))
     (rw (l .plan-of .ensures) at (d .decode-rows .ensures .1))

@@ -1,4 +1,5 @@
--- `decoder::direct::direct_texel` is what the function of its format's reads ensures; an unknown format gives and reads nothing. Assumes nothing.
+-- `decoder::direct::direct_texel` is what the function of its format's reads ensures; an unknown format gives and reads nothing.
+-- Assumes nothing.
 use Rattle.decoder.proofs.Formats.{four-reads, no-reads}
 use Rattle.decoder.specs.Steps.{formatAt}
 use Rattle.rules.specs.Picture.{direct}
@@ -29,13 +30,16 @@ returns-2 : tie.Need-returns-2
 returns-2 c = c .two-byte-texel .ensures
 
 returns-3 : tie.Need-returns-3
-returns-3 c = rw (four-reads (formatAt (c .before .before .before .before .args .place)) (sym (c .before .before .format-reads .ensures) ∙ c .before .match .keys3)) (c .rgba32-texel .ensures)
+returns-3 c =
+    rw (four-reads (formatAt (c .before .before .before .before .args .place))
+    (sym (c .before .before .format-reads .ensures) ∙ c .before .match .keys3)) (c .rgba32-texel .ensures)
 
 returns-4 : tie.Need-returns-4
 unfolding direct given trail
 returns-4 c =
     let n = rw (c .before .format-reads .ensures) at (c .match .rest) in
-    rw (no-reads (formatAt (c .before .before .before .args .place)) (n .0 .0 .1) (n .0 .1) (n .1)) (record { channels = refl; reads = refl; few = omega arith; full = refl })
+    rw (no-reads (formatAt (c .before .before .before .args .place)) (n .0 .0 .1) (n .0 .1) (n .1))
+    (record { channels = refl; reads = refl; few = omega arith; full = refl })
 
 pub direct-texel-spec : {M : Type 1} → statement M
 direct-texel-spec =

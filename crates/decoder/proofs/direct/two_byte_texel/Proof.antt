@@ -32,15 +32,19 @@ decode-ia16-entry-requires c κs = search needs
 returns : tie.Need-returns
 unfolding direct given trail
 returns c =
-    let m = c .before .before in
-    rw (m .match .keys1, c .decode-rgba16-entry .ensures, c .before .entry-of .ensures, m .before .load-byte2 .ensures, m .before .before .load-byte .ensures)
+    let e = c .before in
+    let m = e .before in
+    let l = m .before in
+    rw (m .match .keys1, c .decode-rgba16-entry .ensures, e .entry-of .ensures, l .load-byte2 .ensures, l .before .load-byte .ensures)
     (record { channels = refl; reads = refl; few = omega arith; full = refl })
 
 returns-2 : tie.Need-returns-2
 unfolding direct given trail
 returns-2 c =
-    let m = c .before .before in
-    rw (m .match .keys2, c .decode-ia16-entry .ensures, c .before .entry-of2 .ensures, m .before .load-byte2 .ensures, m .before .before .load-byte .ensures)
+    let e = c .before in
+    let m = e .before in
+    let l = m .before in
+    rw (m .match .keys2, c .decode-ia16-entry .ensures, e .entry-of2 .ensures, l .load-byte2 .ensures, l .before .load-byte .ensures)
     (record { channels = refl; reads = refl; few = omega arith; full = refl })
 
 returns-3 : tie.Need-returns-3

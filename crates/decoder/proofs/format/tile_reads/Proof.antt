@@ -24,7 +24,8 @@ unfolding readsEach
 returns-2 c =
     let s = c .before .before in
     let few = lt-leb 2 (s .before .args .«tlut-fmt») (s .if1 .left) in (
-      rw (few, placed _ _ (s .before .pre .siz)) (c .format-reads .ensures ∙ ap (λ n. formatReads (formatAt n)) (rw few at (c .before .kind-of .ensures))),
+      rw (few, placed _ _ (s .before .pre .siz))
+          (c .format-reads .ensures ∙ ap (λ n. formatReads (formatAt n)) (rw few at (c .before .kind-of .ensures))),
       rw (c .format-reads .ensures) (format-few (formatAt (c .before .kind-of .result))),
     )
 

@@ -1,4 +1,5 @@
--- `decoder::palette::paletted_texel` reads the index and then its entry, at the rule's addresses; the table has the entry's texel. Assumes nothing.
+-- `decoder::palette::paletted_texel` reads the index and then its entry, at the rule's addresses; the table has the entry's texel.
+-- Assumes nothing.
 use Rattle.decoder.proofs.Texels.{paletted-is}
 use Rattle.texdec.proofs.Palettes.{by-part, part-small}
 use Rattle.rdp.specs.View.{tileOf}
@@ -18,7 +19,8 @@ byte-small c = omega arith
 small : (c : tie.After-palette-index) → c .palette-index .result < 256
 small c =
     let s = c .before .before .before in
-    rw (c .palette-index .ensures) (part-small (s .args .part) (s .args .plan .tile .palette) (s .args .x) _ (s .pre .0 .inside .palette) (byte-small c))
+    rw (c .palette-index .ensures)
+    (part-small (s .args .part) (s .args .plan .tile .palette) (s .args .x) _ (s .pre .0 .inside .palette) (byte-small c))
 
 load-byte-masked-requires : tie.Need-load-byte-masked-requires
 load-byte-masked-requires c κs = search needs

@@ -17,7 +17,8 @@ same-length c = search needs
 returns : tie.Need-returns
 returns c =
     let a = c .before .before .before .before .before .before .before .before .args in
-    alone (a .lookup) (a .bank .now) (tileOf (a .tile)) (a .«tlut-fmt») (a .lane) (a .out .now) _ _ _ _ (c .before .before .before .picture-of .ensures)
+    alone (a .lookup) (a .bank .now) (tileOf (a .tile)) (a .«tlut-fmt») (a .lane) (a .out .now) _ _ _ _
+    (c .before .before .before .picture-of .ensures)
 
 pub picture-alone-spec : {M : Type 1} → statement M
 picture-alone-spec = tie.close (tie.spec slice-aggregate-picture-of picture-of-requires same-length returns)

@@ -5,7 +5,6 @@ use Rattle.rdp.specs.View.{tileOf}
 use native.Mathlib.Omega.{arith}
 use native.Mathlib.Nat.{mul-le-mul}
 use Prim.Native.Nat.{ℕ, _*_, _%_, _≤_}
-use mathlib.Core.Path.{_≡_}
 use borrow.Author.Needs.{needs}
 use Rattle.decoder.proofs.place.row_at.Statement.{statement}
 use Rattle.decoder.proofs.place.row_at.Tie as tie

@@ -28,7 +28,8 @@ early-refusal-requires c κs = search needs
 returns : tie.Need-returns
 returns c =
     let a = c .before .before .before .before .before .args in
-    refusal-early (a .observe) (a .lookup) (a .bank .now) (tileOf (a .tile)) (a .«tlut-fmt») (a .lane) (a .out .now) (a .seen .now) _ (c .before .early-refusal .ensures) (c .if1 .taken)
+    refusal-early (a .observe) (a .lookup) (a .bank .now) (tileOf (a .tile)) (a .«tlut-fmt») (a .lane) (a .out .now) (a .seen .now) _
+    (c .before .early-refusal .ensures) (c .if1 .taken)
 
 texel-count-requires : tie.Need-texel-count-requires
 texel-count-requires c κs = tiled c
@@ -56,7 +57,8 @@ returns-2 c =
     let r = c .before .before .before in
     let a = r .before .before .before .before .before .before .before .args in
     rw (c .refuse3 .ensures, c .before .refuse2 .ensures, c .before .before .refuse .ensures)
-    (refusal-late (a .observe) (a .lookup) (a .bank .now) (tileOf (a .tile)) (a .«tlut-fmt») (a .lane) (a .out .now) (a .seen .now) _ _ (none (r .before .before)) (r .before .texel-count .ensures .0) (r .tile-reads .ensures .0))
+    (refusal-late (a .observe) (a .lookup) (a .bank .now) (tileOf (a .tile)) (a .«tlut-fmt») (a .lane) (a .out .now) (a .seen .now) _ _
+    (none (r .before .before)) (r .before .texel-count .ensures .0) (r .tile-reads .ensures .0))
 
 pub first-refusal-spec : {M : Type 1} → statement M
 first-refusal-spec =

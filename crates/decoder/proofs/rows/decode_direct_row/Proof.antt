@@ -57,7 +57,8 @@ decode-named-row-requires-10 c κs =
 decode-named-row-requires-11 : tie.Need-decode-named-row-requires-11
 decode-named-row-requires-11 c κs =
     let s = c .before .before .before .before .before .before in
-    (rw (last _ _ _ (s .pre .0 .kind) (s .pre .1 .0) (s .pre .0 .inside) (s .pre .0 .knows) (c .before .before .match .rest)) at (s .pre .0), s .pre .1 .1)
+    let k = last _ _ _ (s .pre .0 .kind) (s .pre .1 .0) (s .pre .0 .inside) (s .pre .0 .knows) (c .before .before .match .rest) in
+    (rw k at (s .pre .0), s .pre .1 .1)
 
 same-length : tie.Need-same-length
 same-length c = search needs

@@ -19,7 +19,8 @@ decode-named-row-requires-3 : tie.Need-decode-named-row-requires-3
 decode-named-row-requires-3 c κs =
     let s = c .before .before .before .before .before .before in
     let m = c .before .before .match .rest in
-    (rw (third (tileOf (s .args .plan .tile)) (s .args .plan .«tlut_fmt») _ (s .pre .0 .kind) (s .pre .1 .0) (m .0 .1) (m .1)) at (s .pre .0), s .pre .1 .1)
+    let k = third (tileOf (s .args .plan .tile)) (s .args .plan .«tlut_fmt») _ (s .pre .0 .kind) (s .pre .1 .0) (m .0 .1) (m .1) in
+    (rw k at (s .pre .0), s .pre .1 .1)
 
 same-length : tie.Need-same-length
 same-length c = search needs

@@ -51,7 +51,8 @@ mul-bytes c = let p = c .before .before .before .before .before .pre in omega (a
 mul-told : tie.Need-mul-told Inv-loop μ-loop
 mul-told c =
     let s = c .before .before .before .before .before .before in
-    let step : s .args .plan .step ≤ 8 = rw (s .pre .0 .step) (step-few (s .args .plan .observe) (tileOf (s .args .plan .tile)) (s .args .plan .«tlut_fmt»)) in
+    let p = s .args .plan in
+    let step : p .step ≤ 8 = rw (s .pre .0 .step) (step-few (p .observe) (tileOf (p .tile)) (p .«tlut_fmt»)) in
     omega (arith, mul-le-mul step (s .pre .0 .narrow))
 
 loop-holds : tie.Need-loop-holds Inv-loop μ-loop
@@ -116,8 +117,10 @@ loop-again c =
     let p = start s .pre in
     let t = c .before .before .before .before .paint-row in
     let row = rowAt (a .plan .lookup) (tileOf (a .plan .tile)) (a .plan .«tlut_fmt») in
-    let o = again (rows-given (a .plan) (a .bank .now) row (a .plan .rows) (p .0 .knows)) (s .loop .y) _ _ _ (omega arith) (p .1 .0) (s .loop .inv .1) (rw (r .row-at .ensures .0) at (t .ensures .0)) in
-    let q = again (rows-told (a .plan) (a .bank .now) row (a .plan .rows) (p .0 .step)) (s .loop .y) _ _ _ (omega arith) (p .1 .1) (s .loop .inv .2) (rw (r .row-at .ensures .0) at (t .ensures .1)) in
+    let gives = rows-given (a .plan) (a .bank .now) row (a .plan .rows) (p .0 .knows) in
+    let tells = rows-told (a .plan) (a .bank .now) row (a .plan .rows) (p .0 .step) in
+    let o = again gives (s .loop .y) _ _ _ (omega arith) (p .1 .0) (s .loop .inv .1) (rw (r .row-at .ensures .0) at (t .ensures .0)) in
+    let q = again tells (s .loop .y) _ _ _ (omega arith) (p .1 .1) (s .loop .inv .2) (rw (r .row-at .ensures .0) at (t .ensures .1)) in
     (omega arith, o .0, q .0, o .1, q .1)
 
 same-length : tie.Need-same-length Inv-loop μ-loop

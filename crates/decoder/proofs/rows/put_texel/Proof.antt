@@ -7,7 +7,6 @@ use Rattle.rules.specs.Picture.{texel, readsEach}
 use Rattle.rules.specs.Reading.{given, trail}
 use Rattle.rules.specs.Base.{over}
 use lib.ListN.{take}
-use native.Mathlib.Omega.{arith}
 use mathlib.Core.Path.{_≡_}
 use borrow.Author.Needs.{needs}
 use Rattle.decoder.proofs.rows.put_texel.Statement.{statement}
@@ -15,7 +14,9 @@ use Rattle.decoder.proofs.rows.put_texel.Tie as tie
 
 -- the texel is the rule's
 decoded : (c : tie.After-decode-texel-lane) → let a = c .before .before .before .before .before .before .args in
-    Decodes (texel (tileOf (a .plan .tile)) (a .plan .«tlut_fmt») (a .plan .lane) (a .row .odd) (c .before .before .rel .result) (c .before .x .result)) (a .bank .now) (c .decode-texel-lane .result)
+    Decodes
+    (texel (tileOf (a .plan .tile)) (a .plan .«tlut_fmt») (a .plan .lane) (a .row .odd)
+    (c .before .before .rel .result) (c .before .x .result)) (a .bank .now) (c .decode-texel-lane .result)
 decoded c = c .decode-texel-lane .ensures
 
 -- what it gives, tells and counts
@@ -26,14 +27,16 @@ texel-given c =
     put-given _ _ _ _ _ _ _ _ _ (c .before .before .rel .ensures .0) (c .before .x .ensures) (decoded c) (s .pre .0 .knows)
 
 texel-told : (c : tie.After-decode-texel-lane) → let a = c .before .before .before .before .before .before .args in
-    take (c .decode-texel-lane .result .count) (c .decode-texel-lane .result .reads) ≡ trail (oneTexel (a .plan) (a .row) (a .i)) (a .bank .now)
+    take (c .decode-texel-lane .result .count) (c .decode-texel-lane .result .reads)
+    ≡ trail (oneTexel (a .plan) (a .row) (a .i)) (a .bank .now)
 texel-told c = put-reads _ _ _ _ _ _ _ _ _ (c .before .before .rel .ensures .0) (c .before .x .ensures) (decoded c)
 
 texel-count : (c : tie.After-decode-texel-lane) → let a = c .before .before .before .before .before .before .args in
     c .decode-texel-lane .result .count ≡ readsEach (tileOf (a .plan .tile)) (a .plan .«tlut_fmt»)
 texel-count c =
     let a = c .before .before .before .before .before .before .args in
-    put-count _ _ (a .plan .lane) (a .row) (a .i) (a .bank .now) _ _ _ (c .before .before .rel .ensures .0) (c .before .x .ensures) (decoded c)
+    put-count _ _ (a .plan .lane) (a .row) (a .i) (a .bank .now) _ _ _
+    (c .before .before .rel .ensures .0) (c .before .x .ensures) (decoded c)
 
 rel-requires : tie.Need-rel-requires
 rel-requires c κs = search needs

@@ -55,7 +55,8 @@ loop-again c =
     let room : l .before .before .first-entry .result + l .loop .k < length (l .loop .table) = omega (arith, ends l) in (
       omega arith,
       simp length-set (l .loop .inv .1),
-      filled-more (a .«tlut-fmt») (a .lane) (a .bank .now) _ (l .loop .table) (l .loop .k) _ room (l .loop .inv .2) (c .entry-texel .ensures),
+      filled-more (a .«tlut-fmt») (a .lane) (a .bank .now) _ (l .loop .table) (l .loop .k) _ room
+          (l .loop .inv .2) (c .entry-texel .ensures),
     )
 
 returns : tie.Need-returns Inv-loop μ-loop

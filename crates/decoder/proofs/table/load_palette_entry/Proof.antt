@@ -27,13 +27,15 @@ returns : tie.Need-returns
 unfolding given
 returns c =
     let e = c .before .before in
-    simp (c .decode-rgba16-entry .ensures, e .entry-of .ensures, e .before .byte-at2 .ensures, e .before .before .byte-at .ensures, eq-eqb _ _ (c .before .if1 .taken))
+    let mode = eq-eqb _ _ (c .before .if1 .taken) in
+    simp (c .decode-rgba16-entry .ensures, e .entry-of .ensures, e .before .byte-at2 .ensures, e .before .before .byte-at .ensures, mode)
 
 returns-2 : tie.Need-returns-2
 unfolding given
 returns-2 c =
     let e = c .before .before in
-    simp (c .decode-ia16-entry .ensures, e .entry-of .ensures, e .before .byte-at2 .ensures, e .before .before .byte-at .ensures, ne-eqb _ _ (c .before .if1 .left))
+    let mode = ne-eqb _ _ (c .before .if1 .left) in
+    simp (c .decode-ia16-entry .ensures, e .entry-of .ensures, e .before .byte-at2 .ensures, e .before .before .byte-at .ensures, mode)
 
 pub load-palette-entry-spec : {M : Type 1} → statement M
 load-palette-entry-spec =

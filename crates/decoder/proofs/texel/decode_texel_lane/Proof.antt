@@ -34,14 +34,16 @@ returns c = rw (texel-tlut _ _ _ _ _ _ (with-table (c .before))) (c .paletted-te
 direct-texel-requires : tie.Need-direct-texel-requires
 direct-texel-requires c κs =
     let s = c .before .before .before .before .before in
-    (omega (arith, c .before .bytes .ensures, s .pre .inside .tmem-addr), (s .pre .inside .palette, (omega arith, s .pre .table .bytes (lt-leb 2 _ (without c)))))
+    let table = s .pre .table .bytes (lt-leb 2 _ (without c)) in
+    (omega (arith, c .before .bytes .ensures, s .pre .inside .tmem-addr), (s .pre .inside .palette, (omega arith, table)))
 
 returns-2 : tie.Need-returns-2
 returns-2 c =
     let s = c .before .before .before .before .before .before in
     let m = without (c .before) in
     let place = rw (lt-leb 2 _ m) at (s .pre .kind) in
-    rw (texel-direct _ _ _ _ _ _ m, placed _ _ (s .pre .inside .siz), ← place, ← c .before .before .bytes .ensures) (c .direct-texel .ensures)
+    rw (texel-direct _ _ _ _ _ _ m, placed _ _ (s .pre .inside .siz), ← place, ← c .before .before .bytes .ensures)
+    (c .direct-texel .ensures)
 
 pub decode-texel-lane-spec : {M : Type 1} → statement M
 decode-texel-lane-spec =

@@ -37,7 +37,8 @@ returns c old room e =
     let a = s .args in
     let h = c .before .before .before .before .if1 .taken in
     rw (capped-next (a .i) (a .count) h)
-    (again (addresses (a .t1) (a .count) (omega arith)) (a .i) old _ _ h room (rw (capped-below (a .i) (a .count) h) at e) (c .before .before .note-read .ensures) .0)
+    (again (addresses (a .t1) (a .count) (omega arith)) (a .i) old _ _ h room
+    (rw (capped-below (a .i) (a .count) h) at e) (c .before .before .note-read .ensures) .0)
 
 returns-2 : tie.Need-returns-2
 returns-2 c old room e =

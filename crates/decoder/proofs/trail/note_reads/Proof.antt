@@ -7,7 +7,6 @@ use lib.ListN.{length, take}
 use native.Mathlib.Omega.{arith}
 use Prim.Native.Nat.{_-_, _≤_}
 use mathlib.Core.Path.{_≡_, ap, _∙_}
-use borrow.Author.Needs.{needs}
 use Rattle.decoder.proofs.trail.note_reads.Statement.{statement}
 use Rattle.decoder.proofs.trail.note_reads.Tie as tie
 
