@@ -1,6 +1,7 @@
--- The kind that is left when no other matched.
+-- A row whose kind is named: what it asks for, and the kind that is left when no other matched.
 use mathlib.Core.Path.{_≡_}
 use mathlib.Core.Bool.{Bool, true, false, cond, true≢false}
+use mathlib.Core.List.{List}
 use Prim.Native.Nat.{ℕ, _+_, _*_, _<_, _≤_}
 use native.Mathlib.Decide.{ℕ-discrete}
 use lib.Dec.{eqb}
@@ -9,8 +10,15 @@ use Rattle.rules.specs.Tile.{Tile, InRange}
 use Rattle.rules.specs.Texdec.{stepKnows}
 use Rattle.rules.specs.Picture.{readsEach}
 use Rattle.decoder.specs.Steps.{kindOf}
+use Rattle.decoder.specs.Rows.{Ready}
+use Rattle.decoder.specs.declared.plan.Plan.{Plan}
 use Rattle.decoder.proofs.Formats.{Not, placed, unlisted}
 use Rattle.decoder.proofs.Lengths.{reads-none}
+
+-- What was ready for a row of some kind is ready for the row that names it; what told the kinds apart is no longer asked.
+pub named : {bank texels : List ℕ} {p : Plan} {kind k : ℕ} {Apart Rest : Type 0} → kind ≡ k
+    → Ready bank texels p kind × (Apart × Rest) → Ready bank texels p k × Rest
+named e h = (rw e at (h .0), h .1 .1)
 
 module _ (t : Tile) (mode kind : ℕ) (k : kind ≡ kindOf t mode) where
   -- with a lookup table there are three kinds

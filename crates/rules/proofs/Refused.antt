@@ -93,9 +93,3 @@ one-byte false = refl
 -- call leaves, equals a definition of the inputs.
 pub determined : {A : Type 0} {s a b : A} → a ≡ s → b ≡ s → a ≡ b
 determined p q = p ∙ sym q
-
--- So are those of a contract that speaks of two cases, which can be told apart.
-pub either-determined : {A P : Type 0} {s t a b : A} → Dec P → (P → a ≡ s) → ((P → ⊥) → a ≡ t) → (P → b ≡ s) → ((P → ⊥) → b ≡ t)
-    → a ≡ b
-either-determined (yes h) p p' q q' = determined (p h) (q h)
-either-determined (no h) p p' q q' = determined (p' h) (q' h)

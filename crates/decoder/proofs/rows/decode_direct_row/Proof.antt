@@ -1,64 +1,54 @@
 -- `decoder::rows::decode_direct_row` is the row of its kind, each kind named. Assumes nothing.
-use Rattle.decoder.proofs.NamedKinds.{last}
+use Rattle.decoder.proofs.NamedKinds.{named, last}
 use borrow.Author.Needs.{needs}
 use Rattle.decoder.proofs.rows.decode_direct_row.Statement.{statement}
 use Rattle.decoder.proofs.rows.decode_direct_row.Tie as tie
 
 decode-named-row-requires : tie.Need-decode-named-row-requires
 decode-named-row-requires c κs =
-    let s = c .before .before .before .before .before .before in
-    (rw (c .before .before .match .keys1) at (s .pre .0), s .pre .1 .1)
+    named (c .before .before .match .keys1) (c .before .before .before .before .before .before .pre)
 
 decode-named-row-requires-2 : tie.Need-decode-named-row-requires-2
 decode-named-row-requires-2 c κs =
-    let s = c .before .before .before .before .before .before in
-    (rw (c .before .before .match .keys2) at (s .pre .0), s .pre .1 .1)
+    named (c .before .before .match .keys2) (c .before .before .before .before .before .before .pre)
 
 decode-named-row-requires-3 : tie.Need-decode-named-row-requires-3
 decode-named-row-requires-3 c κs =
-    let s = c .before .before .before .before .before .before in
-    (rw (c .before .before .match .keys3) at (s .pre .0), s .pre .1 .1)
+    named (c .before .before .match .keys3) (c .before .before .before .before .before .before .pre)
 
 decode-named-row-requires-4 : tie.Need-decode-named-row-requires-4
 decode-named-row-requires-4 c κs =
-    let s = c .before .before .before .before .before .before in
-    (rw (c .before .before .match .keys4) at (s .pre .0), s .pre .1 .1)
+    named (c .before .before .match .keys4) (c .before .before .before .before .before .before .pre)
 
 decode-named-row-requires-5 : tie.Need-decode-named-row-requires-5
 decode-named-row-requires-5 c κs =
-    let s = c .before .before .before .before .before .before in
-    (rw (c .before .before .match .keys5) at (s .pre .0), s .pre .1 .1)
+    named (c .before .before .match .keys5) (c .before .before .before .before .before .before .pre)
 
 decode-named-row-requires-6 : tie.Need-decode-named-row-requires-6
 decode-named-row-requires-6 c κs =
-    let s = c .before .before .before .before .before .before in
-    (rw (c .before .before .match .keys6) at (s .pre .0), s .pre .1 .1)
+    named (c .before .before .match .keys6) (c .before .before .before .before .before .before .pre)
 
 decode-named-row-requires-7 : tie.Need-decode-named-row-requires-7
 decode-named-row-requires-7 c κs =
-    let s = c .before .before .before .before .before .before in
-    (rw (c .before .before .match .keys7) at (s .pre .0), s .pre .1 .1)
+    named (c .before .before .match .keys7) (c .before .before .before .before .before .before .pre)
 
 decode-named-row-requires-8 : tie.Need-decode-named-row-requires-8
 decode-named-row-requires-8 c κs =
-    let s = c .before .before .before .before .before .before in
-    (rw (c .before .before .match .keys8) at (s .pre .0), s .pre .1 .1)
+    named (c .before .before .match .keys8) (c .before .before .before .before .before .before .pre)
 
 decode-named-row-requires-9 : tie.Need-decode-named-row-requires-9
 decode-named-row-requires-9 c κs =
-    let s = c .before .before .before .before .before .before in
-    (rw (c .before .before .match .keys9) at (s .pre .0), s .pre .1 .1)
+    named (c .before .before .match .keys9) (c .before .before .before .before .before .before .pre)
 
 decode-named-row-requires-10 : tie.Need-decode-named-row-requires-10
 decode-named-row-requires-10 c κs =
-    let s = c .before .before .before .before .before .before in
-    (rw (c .before .before .match .keys10) at (s .pre .0), s .pre .1 .1)
+    named (c .before .before .match .keys10) (c .before .before .before .before .before .before .pre)
 
 decode-named-row-requires-11 : tie.Need-decode-named-row-requires-11
 decode-named-row-requires-11 c κs =
     let s = c .before .before .before .before .before .before in
     let k = last _ _ _ (s .pre .0 .kind) (s .pre .1 .0) (s .pre .0 .inside) (s .pre .0 .knows) (c .before .before .match .rest) in
-    (rw k at (s .pre .0), s .pre .1 .1)
+    named k (s .pre)
 
 same-length : tie.Need-same-length
 same-length c = search needs

@@ -1,26 +1,24 @@
 -- `decoder::rows::decode_paletted_row` is the row of its kind, each kind named. Assumes nothing.
 use Rattle.rdp.specs.View.{tileOf}
-use Rattle.decoder.proofs.NamedKinds.{third}
+use Rattle.decoder.proofs.NamedKinds.{named, third}
 use borrow.Author.Needs.{needs}
 use Rattle.decoder.proofs.rows.decode_paletted_row.Statement.{statement}
 use Rattle.decoder.proofs.rows.decode_paletted_row.Tie as tie
 
 decode-named-row-requires : tie.Need-decode-named-row-requires
 decode-named-row-requires c κs =
-    let s = c .before .before .before .before .before .before in
-    (rw (c .before .before .match .keys1) at (s .pre .0), s .pre .1 .1)
+    named (c .before .before .match .keys1) (c .before .before .before .before .before .before .pre)
 
 decode-named-row-requires-2 : tie.Need-decode-named-row-requires-2
 decode-named-row-requires-2 c κs =
-    let s = c .before .before .before .before .before .before in
-    (rw (c .before .before .match .keys2) at (s .pre .0), s .pre .1 .1)
+    named (c .before .before .match .keys2) (c .before .before .before .before .before .before .pre)
 
 decode-named-row-requires-3 : tie.Need-decode-named-row-requires-3
 decode-named-row-requires-3 c κs =
     let s = c .before .before .before .before .before .before in
     let m = c .before .before .match .rest in
     let k = third (tileOf (s .args .plan .tile)) (s .args .plan .«tlut_fmt») _ (s .pre .0 .kind) (s .pre .1 .0) (m .0 .1) (m .1) in
-    (rw k at (s .pre .0), s .pre .1 .1)
+    named k (s .pre)
 
 same-length : tie.Need-same-length
 same-length c = search needs
