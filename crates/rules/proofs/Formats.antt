@@ -13,10 +13,7 @@ use Rattle.rules.specs.Texdec.{tlut, Pair, directPairs, acceptedDirect, 
 use Rattle.rules.specs.Reading.{given, trail}
 use Rattle.rules.specs.Sampling.{isRgba32}
 use Rattle.rules.specs.Picture.{address, direct, paletted, texel, formatReads}
-
-both-true : (a b : Bool) → (a && b) ≡ true → (a ≡ true) × (b ≡ true)
-both-true true b h = (refl, h)
-both-true false b h = absurd (true≢false (sym h))
+use Rattle.rules.proofs.Ranges.{both}
 
 -- a test holds of every pair of a list
 abbrev pub everyPair : (ℕ → ℕ → Bool) → List Pair → Bool
@@ -28,14 +25,14 @@ listed : (g : ℕ → ℕ → Bool) (fmt siz : ℕ) (l : List Pair) → everyPai
 unfolding any
 listed g fmt siz [] k h = absurd (true≢false (sym h))
 listed g fmt siz (p ∷ l) k h =
-    go (eqb fmt (p .fmt) && eqb siz (p .siz)) refl h (both-true _ _ k) (listed g fmt siz l)
+    go (eqb fmt (p .fmt) && eqb siz (p .siz)) refl h (both _ _ k) (listed g fmt siz l)
   where
     go : (t : Bool) → (eqb fmt (p .fmt) && eqb siz (p .siz)) ≡ t → (t || any (λ p. eqb fmt (p .fmt) && eqb siz (p .siz)) l) ≡ true
         → (g (p .fmt) (p .siz) ≡ true) × (everyPair g l ≡ true)
         → (everyPair g l ≡ true → any (λ p. eqb fmt (p .fmt) && eqb siz (p .siz)) l ≡ true → g fmt siz ≡ true)
         → g fmt siz ≡ true
     go true e h′ k′ ih =
-        let q = both-true (eqb fmt (p .fmt)) (eqb siz (p .siz)) e in
+        let q = both (eqb fmt (p .fmt)) (eqb siz (p .siz)) e in
         rw (eqb-true fmt (p .fmt) (q .0), eqb-true siz (p .siz) (q .1)) (k′ .0)
     go false e h′ k′ ih = ih (k′ .1) h′
 

@@ -14,4 +14,8 @@ pub mod Formats
 pub mod Refused
 pub mod Ranges
 pub mod Allowed
+pub mod Records
+pub mod ReplayTests
+pub mod Replay
+pub mod ReplayPieces
 pub mod Worked

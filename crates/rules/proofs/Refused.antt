@@ -13,6 +13,15 @@ pub first-next : (t : Test) (l : List Test) → t .fails ≡ false → first (t 
 unfolding first
 first-next t l h = rw h
 
+-- where nothing is refused, the first test passed, and so did the others
+pub first-zero : (t : Test) (l : List Test) → (t .number ≡ 0 → ⊥) → first (t ∷ l) ≡ 0 → (t .fails ≡ false) × (first l ≡ 0)
+unfolding first
+first-zero t l n h = go (t .fails) refl h
+  where
+    go : (b : Bool) → t .fails ≡ b → cond b (t .number) (first l) ≡ 0 → (t .fails ≡ false) × (first l ≡ 0)
+    go true e h′ = absurd (n h′)
+    go false e h′ = (e, h′)
+
 -- no test of the list fails
 unfoldable pub Passed : List Test → Type 0
 Passed [] = Unit {0}
@@ -40,13 +49,15 @@ numbered (t ∷ l) h = go (eqb (t .number) 0) refl h (numbered l)
 
 -- where nothing is refused, every test passed
 pub passed : (l : List Test) → Numbered l → first l ≡ 0 → Passed l
-unfolding first Passed Numbered
+unfolding Passed Numbered
 passed [] n h = tt
-passed (t ∷ l) n h = go (t .fails) refl h (passed l (n .1))
-  where
-    go : (b : Bool) → t .fails ≡ b → cond b (t .number) (first l) ≡ 0 → (first l ≡ 0 → Passed l) → (t .fails ≡ false) × Passed l
-    go true e h′ ih = absurd (n .0 h′)
-    go false e h′ ih = (e, ih h′)
+passed (t ∷ l) n h = let p = first-zero t l (n .0) h in (p .0, passed l (n .1) (p .1))
+
+-- where nothing of a list is refused, nothing of its front is
+pub first-front : (l m : List Test) → Numbered l → first (l ++ m) ≡ 0 → first l ≡ 0
+unfolding Numbered first
+first-front [] m n h = refl
+first-front (t ∷ l) m n h = let p = first-zero t (l ++ m) (n .0) h in rw (p .0) (first-front l m (n .1) (p .1))
 
 -- tests after others are reached where none of those fails
 pub first-append : (l m : List Test) → Numbered l → first (l ++ m) ≡ cond (eqb (first l) 0) (first m) (first l)

@@ -6,7 +6,8 @@ use Prim.Native.Nat.{ℕ, zero, suc, _+_, _<_}
 use native.Mathlib.Omega.{arith}
 use native.Mathlib.Nat.{add-zero, add-suc, suc-add, zero-add, le-of-suc-le-suc}
 use native.Mathlib.Numerals.{add-one}
-use lib.ListN.{length, getD}
+use lib.ListN.{length, getD, take}
+use lib.Seq.{take-at}
 use lib.Dec.{eqb}
 use borrow.Author.Tests.{eq-eqb}
 use Rattle.rules.specs.Base.{tab, tabFrom, concat, mem}
@@ -43,8 +44,31 @@ module _ {A : Type 0} where
   unfolding tab
   tab-more n f = rw add-one (from-more 0 n f ∙ ap (λ k. tabFrom 0 n f ++ (f k ∷ [])) (zero-add n))
 
+  pub tab-none : (f : ℕ → A) → tab 0 f ≡ []
+  unfolding tab tabFrom
+  tab-none f = refl
+
+  -- two tables that agree
+  pub tab-same : (n : ℕ) (f g : ℕ → A) → ((i : ℕ) → i < n → f i ≡ g i) → tab n f ≡ tab n g
+  tab-same zero f g h = tab-none f ∙ sym (tab-none g)
+  tab-same (suc n) f g h =
+      let ih : tab n f ≡ tab n g = tab-same n f g (λ i l. h i (omega arith)) in
+      rw (← add-one, tab-more n f, tab-more n g, ih, h n (omega arith))
+
+  -- a table cut after n entries
+  pub tab-cut : (n m : ℕ) (f : ℕ → A) → tab (n + m) f ≡ tab n f ++ tab m (λ j. f (n + j))
+  tab-cut n zero f = rw (add-zero, tab-none (λ j. f (n + j)), append-nil)
+  tab-cut n (suc m) f =
+      let e : n + suc m ≡ (n + m) + 1 = omega arith in
+      let s : suc m ≡ m + 1 = omega arith in
+      rw (e, s, tab-more (n + m) f, tab-cut n m f, tab-more m (λ j. f (n + j)), append-assoc)
+
+  -- the first n of them
+  pub take-tab : (n m : ℕ) (f : ℕ → A) → take n (tab (n + m) f) ≡ tab n f
+  take-tab n m f = rw (tab-cut n m f) (take-at (tab n f) (tab m (λ j. f (n + j))) n (length-tab n f))
+
 module _ {A : Type 0} where
-  concat-append : (l m : List (List A)) → concat (l ++ m) ≡ concat l ++ concat m
+  pub concat-append : (l m : List (List A)) → concat (l ++ m) ≡ concat l ++ concat m
   unfolding concat
   concat-append [] m = refl
   concat-append (x ∷ l) m = ap (λ r. x ++ r) (concat-append l m) ∙ sym (append-assoc x (concat l) (concat m))

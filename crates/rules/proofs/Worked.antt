@@ -1,14 +1,16 @@
--- The worked examples of document 01 hold, every row of the table: antt computes both sides.
+-- The worked examples hold, every row of the table: antt computes both sides.
 use lib.Dec.{T}
-use Rattle.rules.specs.Base.{tab, tabFrom, concat, mem, any, distinct}
+use Rattle.rules.specs.Base.{tab, tabFrom, concat, mem, any, distinct, marks, marked}
 use Rattle.rules.specs.Reading.{trail, given, andThen, prepend, upTo}
 use Rattle.rules.specs.Texdec.{accepted, acceptedDirect, formatOf}
 use Rattle.rules.specs.Sampling.{flag, texels}
-use Rattle.rules.specs.Load.{stored, list4, splitStores, wholeStores, wordStores, blockStores, tlutStores, hardwareStores, rowStores}
+use Rattle.rules.specs.Load.{stored, written, list4, splitStores, wholeStores, wordStores, blockStores, tileStores, tlutStores}
+use Rattle.rules.specs.Load.{hardwareStores, rowStores}
 use Rattle.rules.specs.Picture.{picture, plain, plainRow, lookup, lookupRow, texel, paletted, direct}
 use Rattle.rules.specs.Key.{key, keyOf, kept, keptCount}
 use Rattle.rules.specs.Refusal.{first, settle, call}
 use Rattle.rules.specs.Lister.{recordTile, lineOf, recordLine, lowDigits, reversed, decimal, lineText, listing}
+use Rattle.rules.specs.Replay.{storesIn, outsideIn, recordTests, countOf, left, outcome, inFile, replayed, lines, texts, replayText}
 use Rattle.rules.specs.Worked.{table, allSame}
 
 pub worked : T (allSame table)
@@ -16,4 +18,5 @@ unfolding table tab tabFrom concat mem any distinct trail given andThen prepend 
     stored list4 splitStores wholeStores wordStores blockStores tlutStores hardwareStores rowStores
     picture plain plainRow lookup lookupRow texel paletted direct key keyOf kept keptCount
     first settle call recordTile lineOf recordLine lowDigits reversed decimal lineText listing
+    written marks marked tileStores storesIn outsideIn recordTests countOf left outcome inFile replayed lines texts replayText
 worked = tt

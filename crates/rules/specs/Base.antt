@@ -1,10 +1,10 @@
 -- Lists, choices, bits and maps: the words that every rule uses.
 use mathlib.Core.Bool.{Bool, false, cond, _||_}
 use mathlib.Core.List.{List, [], _∷_, _++_}
-use Prim.Native.Nat.{ℕ, zero, suc, _+_, _/_, _%_, _^_}
+use Prim.Native.Nat.{ℕ, zero, suc, _+_, _*_, _/_, _%_, _^_}
 use lib.Bits.{bitOr}
 use lib.Dec.{eqb}
-use lib.ListN.{length, getD, set, drop}
+use lib.ListN.{length, getD, set, take, drop}
 
 -- a number for a yes or a no
 abbrev pub one : Bool → ℕ
@@ -27,6 +27,10 @@ tab n f = tabFrom 0 n f
 unfoldable pub concat : {A : Type 0} → List (List A) → List A
 concat [] = []
 concat (l ∷ ls) = l ++ concat ls
+
+-- record i of an input of records of so many bytes; the last may be torn
+abbrev pub recordOf : ℕ → List ℕ → ℕ → List ℕ
+recordOf size input i = take size (drop (i * size) input)
 
 -- a is in the list
 unfoldable pub mem : ℕ → List ℕ → Bool

@@ -35,8 +35,8 @@ badLane lane = 3 if laneOutside lane
 -- "a load number or the source's length is outside its range": "image size 0..3; block words 0..2,048 and dxt 0..4,095;
 -- tile rows 0..1,024 and words a row 0..512; TLUT count 0..1,024 and rows 1..1,024; source stride 0..65,535. The loaded
 -- source has 0 to 65,536 bytes"
-abbrev pub sourceOutside : List ℕ → ℕ → Bool
-sourceOutside src image = ltb 65536 (length src) || ltb 3 image
+abbrev pub sourceOutside : ℕ → ℕ → Bool
+sourceOutside size image = ltb 65536 size || ltb 3 image
 
 abbrev pub blockOutside : ℕ → ℕ → Bool
 blockOutside dxt words = ltb 4095 dxt || ltb 2048 words
@@ -55,15 +55,14 @@ badPair t mode = 5 if not (accepted mode (t .fmt) (t .siz))
 abbrev pub unknownPair : Tile → ℕ → Test
 unknownPair t mode = 9 if not (stepKnows mode (t .fmt) (t .siz))
 
--- Loads: bank and written map are lent, and the count of stores is answered.
+-- Loads: bank and written map are lent, and the count of stores is answered. The tests of a load's numbers, for a source of `size`
+-- bytes, stand before those that a caller may add.
+abbrev pub numberTests : ℕ → Tile → ℕ → Bool → List Test → List Test
+numberTests size t image outside l = (2 if loadFieldsOutside t) ∷ (4 if sourceOutside size image) ∷ (4 if outside) ∷ l
+
 abbrev pub loadTests : List ℕ → List ℕ → List ℕ → Tile → ℕ → Bool → List Test
 loadTests bank map src t image outside =
-    (1 if notBytes bankSize bank)
-    ∷ (1 if notBytes mapSize map)
-    ∷ (2 if loadFieldsOutside t)
-    ∷ (4 if sourceOutside src image)
-    ∷ (4 if outside)
-    ∷ []
+    (1 if notBytes bankSize bank) ∷ (1 if notBytes mapSize map) ∷ numberTests (length src) t image outside []
 
 abbrev pub loaded : List Test → List Store → List ℕ → List ℕ → List ℕ → Outcome
 loaded tests l bank map src =

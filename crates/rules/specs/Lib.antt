@@ -11,4 +11,5 @@ pub mod Key
 pub mod Refusal
 pub mod Calls
 pub mod Lister
+pub mod Replay
 pub mod Worked

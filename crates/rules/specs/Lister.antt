@@ -4,7 +4,7 @@ use mathlib.Core.List.{List, [], _∷_, _++_}
 use Prim.Native.Nat.{ℕ, zero, suc, _+_, _*_, _/_, _%_}
 use lib.Dec.{eqb, ltb}
 use lib.ListN.{length, getD, take, drop}
-use Rattle.rules.specs.Base.{one, tab, concat, over}
+use Rattle.rules.specs.Base.{one, tab, concat, recordOf, over}
 use Rattle.rules.specs.Tile.{Tile, bankSize}
 use Rattle.rules.specs.Sampling.{flag, texels}
 use Rattle.rules.specs.Refusal.{_if_, Outcome, call}
@@ -78,7 +78,7 @@ lineText (n ∷ m ∷ l) = decimal n ++ (32 ∷ lineText (m ∷ l))
 
 -- the whole records of an input, and "A torn tail adds `8 0 0 0`; empty input prints nothing."
 abbrev pub recordAt : List ℕ → ℕ → List ℕ
-recordAt input i = take recordSize (drop (i * recordSize) input)
+recordAt input i = recordOf recordSize input i
 
 abbrev pub tornLine : List ℕ
 tornLine = 8 ∷ 0 ∷ 0 ∷ 0 ∷ []

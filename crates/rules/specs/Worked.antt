@@ -1,11 +1,11 @@
--- "Banks and texels worked by hand": P1 to P12 in one table, with the fourth slip and the lister's example beside them.
+-- "Banks and texels worked by hand": P1 to P12 in one table, with the fourth slip, the lister's example and a replay beside them.
 -- "Fields not named are 0, the bank is fresh." `Rattle.rules.proofs.Worked` proves every row.
 use mathlib.Core.Bool.{Bool, true, false, cond}
 use mathlib.Core.List.{List, [], _∷_, _++_}
 use Prim.Native.Nat.{ℕ, _+_}
 use lib.Dec.{eqb}
 use lib.ListN.{set, replicate, take, drop}
-use Rattle.rules.specs.Base.{one, tab}
+use Rattle.rules.specs.Base.{one, tab, concat}
 use Rattle.rules.specs.Reading.{trail}
 use Rattle.rules.specs.Tile.{Tile, bankSize}
 use Rattle.rules.specs.Texdec.{rgba16Texel, ia4Texel, ia8Texel}
@@ -14,6 +14,7 @@ use Rattle.rules.specs.Load.{Store, loadTile, stored, blockStores, tlutS
 use Rattle.rules.specs.Picture.{picture, texel}
 use Rattle.rules.specs.Key.{key, keptCount}
 use Rattle.rules.specs.Lister.{listing}
+use Rattle.rules.specs.Replay.{fresh as start, inFile, replayed, lines, recordsIn, replayText}
 
 -- two lists of numbers that have to be the same
 pub record Case : Type 0 where
@@ -99,6 +100,33 @@ byte3 = set fresh 0 3
 abbrev listed : List ℕ
 listed = 4 ∷ 1 ∷ (replicate 10 0 ++ (0 ∷ 2 ∷ 0 ∷ 1 ∷ fresh))
 
+-- Document 02's item 1. A record of a kind, the lister's sixteen bytes, the six numbers of two bytes, and offset and length; the ten
+-- ignored bytes are 255. The key is of CI8, 2 by 1, in mode 2.
+abbrev replayRecord : ℕ → List ℕ → List ℕ → List ℕ → List ℕ
+replayRecord kind tile numbers place = kind ∷ 0 ∷ (tile ++ numbers ++ place ++ replicate 10 255)
+
+abbrev keyRecord : List ℕ
+keyRecord = replayRecord 3 (2 ∷ 1 ∷ 0 ∷ 2 ∷ (replicate 9 0 ++ (2 ∷ 0 ∷ 1 ∷ []))) (replicate 12 255) (replicate 8 255)
+
+-- a block of one word into the bank's start
+abbrev blockRecord : List ℕ → List ℕ
+blockRecord place = replayRecord 0 (0 ∷ 2 ∷ replicate 14 0) (0 ∷ 2 ∷ 0 ∷ 0 ∷ 0 ∷ 1 ∷ replicate 6 0) place
+
+-- an unknown kind with a field outside its range, a key, a length of 65,537 that also ends past the file, an offset of 2^32 - 1 with a
+-- length of 1, the second and third byte of the file, the key again, and a torn tail
+abbrev replayInput : List ℕ
+replayInput =
+    replayRecord 7 (replicate 16 255) (replicate 12 0) (replicate 8 0)
+    ++ keyRecord
+    ++ blockRecord (0 ∷ 0 ∷ 0 ∷ 9 ∷ 0 ∷ 1 ∷ 0 ∷ 1 ∷ [])
+    ++ blockRecord (255 ∷ 255 ∷ 255 ∷ 255 ∷ 0 ∷ 0 ∷ 0 ∷ 1 ∷ [])
+    ++ blockRecord (0 ∷ 0 ∷ 0 ∷ 1 ∷ 0 ∷ 0 ∷ 0 ∷ 2 ∷ [])
+    ++ keyRecord
+    ++ (0 ∷ [])
+
+abbrev companion : List ℕ
+companion = 1 ∷ 2 ∷ 3 ∷ 9 ∷ []
+
 unfoldable pub table : List Case
 table =
     -- P1, P2: entries F801 and 8420
@@ -134,6 +162,12 @@ table =
     ∷ (trail (texel (tile 0 2 0 0 0 0) 0 0 true 3 0) fresh gives 7 ∷ 0 ∷ [])
     -- the lister's example prints "0 0 2 2"
     ∷ (listing listed gives 48 ∷ 32 ∷ 48 ∷ 32 ∷ 50 ∷ 32 ∷ 50 ∷ 10 ∷ [])
+    -- the replay's lines, "10 0", "0 4", "4 0", "11 0", "0 8", "0 6", "8 0", and the bank's first word after them
+    ∷ (concat (lines (inFile companion) (recordsIn replayInput) start)
+    gives 10 ∷ 0 ∷ 0 ∷ 4 ∷ 4 ∷ 0 ∷ 11 ∷ 0 ∷ 0 ∷ 8 ∷ 0 ∷ 6 ∷ 8 ∷ 0 ∷ [])
+    ∷ (bytesAt 0 8 (replayed (inFile companion) (recordsIn replayInput) start .bank) gives 2 ∷ 3 ∷ 0 ∷ 0 ∷ 0 ∷ 0 ∷ 0 ∷ 0 ∷ [])
+    -- a torn tail alone prints "8 0"
+    ∷ (replayText companion (0 ∷ []) gives 56 ∷ 32 ∷ 48 ∷ 10 ∷ [])
     ∷ []
 
 -- the two lists of every case are the same

@@ -1,0 +1,92 @@
+-- What the tests of a replay's record leave where none fails, and the calls by their tests.
+use mathlib.Core.Path.{_≡_, refl, ap, sym, _∙_}
+use mathlib.Core.Bool.{Bool, true, false, cond, _||_}
+use mathlib.Core.List.{List, [], _∷_, _++_}
+use Prim.Native.Nat.{ℕ, zero, suc, _≤_}
+use native.Mathlib.Omega.{arith}
+use lib.Dec.{ltb}
+use lib.ListN.{length, take}
+use borrow.Author.Tests.{ltb-false, le-ltb}
+use Rattle.rules.specs.Tile.{Tile, bankSize, mapSize, loadFieldsOutside}
+use Rattle.rules.specs.Load.{stored, written}
+use Rattle.rules.specs.Key.{keptCount}
+use Rattle.rules.specs.Refusal.{Test, _if_, Outcome, first, settle, call}
+use Rattle.rules.specs.Calls.{notBytes, sourceOutside, numberTests, pairTests, unknownPair}
+use Rattle.rules.specs.Replay.{replaySize, kindIn, laneIn, tileIn, modeIn, imageIn, sizeIn, asksKey, storesIn, outsideIn}
+use Rattle.rules.specs.Replay.{beyond, recordTests, carried, countOf, left, outcome, partOf, shortPart, replayTests}
+use Rattle.rules.specs.Replay.{replayCall}
+use Rattle.rules.proofs.Ranges.{neither}
+use Rattle.rules.proofs.Refused.{Numbered, numbered, first-zero, first-front}
+
+-- a load's numbers with a shorter source
+pub shorter-source : (size less : ℕ) (t : Tile) (image : ℕ) (outside : Bool) (l : List Test) → less ≤ size
+    → first (numberTests size t image outside l) ≡ 0 → first (numberTests less t image outside []) ≡ 0
+unfolding first
+shorter-source size less t image outside l h z =
+    let p = first-zero (2 if loadFieldsOutside t) ((4 if sourceOutside size image) ∷ (4 if outside) ∷ l) (λ e. omega arith) z in
+    let q = first-zero (4 if sourceOutside size image) ((4 if outside) ∷ l) (λ e. omega arith) (p .1) in
+    let s = neither (ltb 65536 size) (ltb 3 image) (q .0) in
+    let r = first-zero (4 if outside) l (λ e. omega arith) (q .1) in
+    let small : less ≤ 65536 = omega (arith, ltb-false 65536 size (s .0)) in
+    rw (p .0, le-ltb 65536 less small, s .1, r .0)
+
+module _ (end : ℕ) (r : List ℕ) where
+  abbrev pub keyTestsIn : List Test
+  keyTestsIn = pairTests (tileIn r) (modeIn r) (laneIn r) (unknownPair (tileIn r) (modeIn r) ∷ [])
+
+  abbrev pub loadTestsIn : List Test
+  loadTestsIn = numberTests (sizeIn r) (tileIn r) (imageIn r) (outsideIn r) (beyond end r ∷ [])
+
+  abbrev torn : Test
+  torn = 8 if ltb (length r) replaySize
+
+  abbrev unknownKind : Test
+  unknownKind = 10 if ltb 3 (kindIn r)
+
+  pub tests-numbered : Numbered (recordTests end r)
+  unfolding recordTests
+  tests-numbered = go (asksKey r)
+    where
+      go : (b : Bool) → Numbered (torn ∷ unknownKind ∷ cond b keyTestsIn loadTestsIn)
+      go true = numbered (torn ∷ unknownKind ∷ keyTestsIn) refl
+      go false = numbered (torn ∷ unknownKind ∷ loadTestsIn) refl
+
+  module _ (accepted : first (recordTests end r) ≡ 0) where
+    -- the record is whole, and passes the tests of its kind
+    passes : (replaySize ≤ length r) × (first (cond (asksKey r) keyTestsIn loadTestsIn) ≡ 0)
+    unfolding recordTests
+    passes =
+        let p = first-zero torn _ (λ e. omega arith) accepted in
+        (ltb-false (length r) replaySize (p .0), first-zero unknownKind _ (λ e. omega arith) (p .1) .1)
+
+    pub whole : replaySize ≤ length r
+    whole = passes .0
+
+    pub key-passes : asksKey r ≡ true → first keyTestsIn ≡ 0
+    key-passes e = rw e at (passes .1)
+
+    pub load-passes : asksKey r ≡ false → first loadTestsIn ≡ 0
+    load-passes e = rw e at (passes .1)
+
+    -- what is answered and left then is the record's outcome
+    pub key-done : (src bank map : List ℕ) (count : ℕ) → asksKey r ≡ true
+        → count ≡ keptCount (tileIn r) (modeIn r) (laneIn r) bank
+        → record { refusal = 0; numbers = count ∷ []; buffers = bank ∷ map ∷ [] } ≡ outcome end src r (carried bank map)
+    unfolding outcome call settle countOf left
+    key-done src bank map count k e = rw (accepted, k, e)
+
+    pub load-done : (src bank map bank′ map′ : List ℕ) (count : ℕ) → asksKey r ≡ false → count ≡ length (storesIn r)
+        → bank′ ≡ stored src (storesIn r) bank → map′ ≡ written (storesIn r) map
+        → record { refusal = 0; numbers = count ∷ []; buffers = bank′ ∷ map′ ∷ [] } ≡ outcome end src r (carried bank map)
+    unfolding outcome call settle countOf left
+    load-done src bank map bank′ map′ count k e f g = rw (accepted, k, e, f, g)
+
+-- The call for one record is the record's outcome, where no test of the call fails.
+pub call-outcome : (bank map r : List ℕ) (end : ℕ) (part : List ℕ) → first (replayTests bank map r end part) ≡ 0
+    → outcome end (partOf r part) r (carried bank map) ≡ replayCall bank map r end part
+unfolding outcome replayCall call
+call-outcome bank map r end part z =
+    let p = first-zero (1 if notBytes bankSize bank) _ (λ e. omega arith) z in
+    let q = first-zero (1 if notBytes mapSize map) _ (λ e. omega arith) (p .1) in
+    let own : first (recordTests end r) ≡ 0 = first-front (recordTests end r) (shortPart part r ∷ []) (tests-numbered end r) (q .1) in
+    ap (λ n. settle n (countOf r bank ∷ []) (left (partOf r part) r (carried bank map)) (bank ∷ map ∷ [])) (own ∙ sym z)
