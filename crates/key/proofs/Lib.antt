@@ -5,6 +5,7 @@ pub mod Lift
 pub mod Flips
 pub mod Inside
 pub mod Period
+pub mod Called
 pub mod Cuts
 pub mod Within
 pub mod Demand3

@@ -11,7 +11,8 @@ use Rattle.rdp.specs.declared.answer.Answer.{Answer}
 use Rattle.rdp.specs.declared.answer.YesAnswer.{YesAnswer}
 use Rattle.rdp.specs.declared.answer.SamplingAnswer.{SamplingAnswer}
 use Rattle.rdp.specs.declared.answer.TextAnswer.{TextAnswer}
-use Rattle.rdp.specs.View.{answered, yesAnswered, samplingAnswered, textAnswered, refusalAnswered}
+use Rattle.rdp.specs.declared.answer.RunAnswer.{RunAnswer}
+use Rattle.rdp.specs.View.{answered, yesAnswered, samplingAnswered, textAnswered, runAnswered, refusalAnswered}
 
 -- number k of an outcome
 number : ℕ → Outcome → ℕ
@@ -42,6 +43,13 @@ unfolding number
 text-determined o r s l m p q =
     let e : textAnswered r l ≡ textAnswered s m = determined p q in
     ((λ i. record { refusal = e i .refusal; end = number 0 (e i) }), ap (λ o. o .buffers) e)
+
+pub run-determined : (o : Outcome) (r s : RunAnswer) (l m : List (List ℕ)) → runAnswered r l ≡ o → runAnswered s m ≡ o
+    → (r ≡ s) × (l ≡ m)
+unfolding number
+run-determined o r s l m p q =
+    let e : runAnswered r l ≡ runAnswered s m = determined p q in
+    ((λ i. record { refusal = e i .refusal; records = number 0 (e i); end = number 1 (e i) }), ap (λ o. o .buffers) e)
 
 pub refusal-determined : (o : Outcome) (r s : ℕ) (l m : List (List ℕ)) → refusalAnswered r l ≡ o → refusalAnswered s m ≡ o
     → (r ≡ s) × (l ≡ m)

@@ -8,6 +8,7 @@ use Rattle.rdp.specs.declared.answer.Answer.{Answer}
 use Rattle.rdp.specs.declared.answer.YesAnswer.{YesAnswer}
 use Rattle.rdp.specs.declared.answer.SamplingAnswer.{SamplingAnswer}
 use Rattle.rdp.specs.declared.answer.TextAnswer.{TextAnswer}
+use Rattle.rdp.specs.declared.answer.RunAnswer.{RunAnswer}
 
 -- the same fields, with the units' numbers
 abbrev pub tileOf : TileDescriptor → Tile
@@ -38,6 +39,9 @@ samplingAnswered r = record { refusal = r .refusal; numbers = r .flag ∷ r .wid
 
 abbrev pub textAnswered : TextAnswer → List (List ℕ) → Outcome
 textAnswered r left = record { refusal = r .refusal; numbers = r .end ∷ []; buffers = left }
+
+abbrev pub runAnswered : RunAnswer → List (List ℕ) → Outcome
+runAnswered r left = record { refusal = r .refusal; numbers = r .records ∷ r .end ∷ []; buffers = left }
 
 -- the answer of a call that has no number beside its refusal
 abbrev pub refusalAnswered : ℕ → List (List ℕ) → Outcome

@@ -28,3 +28,10 @@ pub struct TextAnswer {
     pub refusal: u32,
     pub end: usize,
 }
+
+// How many records of a run were replayed, and where their text ends.
+pub struct RunAnswer {
+    pub refusal: u32,
+    pub records: usize,
+    pub end: usize,
+}

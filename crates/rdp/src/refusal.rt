@@ -1,4 +1,4 @@
-// The refusals of document 01, by their numbers. 0 is success.
+// The refusals of documents 01 and 02, by their numbers. 0 is success.
 
 // A lent bank or key is not 4,096 bytes, a written or reach map not 512, or a lane map not 32.
 pub const LENGTH: u32 = 1;
@@ -21,8 +21,14 @@ pub const BUFFER: u32 = 6;
 // The trail is shorter than the count of reads.
 pub const TRAIL: u32 = 7;
 
-// The lister's input ends inside a record.
+// The input of the lister or of the replay ends inside a record.
 pub const TORN: u32 = 8;
 
 // The texel step meets a pair it does not know.
 pub const UNKNOWN: u32 = 9;
+
+// The kind of a replay's record is unknown.
+pub const KIND: u32 = 10;
+
+// A replay's record names bytes beyond the companion file.
+pub const BEYOND: u32 = 11;

@@ -1,30 +1,15 @@
 // The sixteen bytes before a record's bank: the tile and the mode. Past a record's end every byte is read as zero.
 ghost use mathlib.Core.Path.{_≡_};
-ghost use Prim.Native.Nat.{_<_};
-ghost use lib.ListN.{getD};
-ghost use Rattle.rules.specs.Lister.{two, recordTile, recordMode};
+ghost use Rattle.rules.specs.Lister.{recordTile, recordMode};
 ghost use Rattle.rdp.specs.View.{tileOf};
+use crate::numbers::byte_at;
+use crate::numbers::two_at;
 use rdp::tile::TileDescriptor;
 use rdp::units::LineWords;
 use rdp::units::WordAddr;
 
 // The bytes before a record's bank.
 pub const HEAD: usize = 16;
-
-fn byte_at(bytes: &[u8], k: usize) -> u32
-    ensures { λ r. ⌜ r ≡ getD (now (bytes .entry)) k 0 ⌝ }
-    ensures { λ r. ⌜ r < 256 ⌝ }
-{
-    if k < bytes.len() { bytes[k] as u32 } else { 0 }
-}
-
-// Two bytes, big end first.
-fn two_at(bytes: &[u8], k: usize) -> u32
-    requires { ⌜ k < 16 ⌝ }
-    ensures { λ r. ⌜ r ≡ two (now (bytes .entry)) k ⌝ }
-{
-    byte_at(bytes, k) * 256 + byte_at(bytes, k + 1)
-}
 
 pub fn record_tile(bytes: &[u8]) -> TileDescriptor
     ensures { λ r. ⌜ tileOf r ≡ recordTile (now (bytes .entry)) ⌝ }

@@ -6,6 +6,8 @@ use Rattle.rules.proofs.Refused.{determined}
 use Rattle.rdp.proofs.Determined.{answered-determined}
 use Rattle.tmem.proofs.bank.Bank.fresh.Reads as fresh
 use Rattle.tmem.proofs.bank.Bank.entry_addr.Reads as entry-addr
+use Rattle.tmem.proofs.load.load.Reads as load
+use Rattle.tmem.proofs.load.number_refusal.Reads as number-refusal
 use Rattle.tmem.proofs.load.write_block_for_tile.Reads as write-block-for-tile
 use Rattle.tmem.proofs.load.write_tile_for_tile.Reads as write-tile-for-tile
 use Rattle.tmem.proofs.load.write_tlut_for_tile.Reads as write-tlut-for-tile
@@ -15,6 +17,13 @@ fresh-one w a r s e f p q = λ i. record { bytes = determined p q i }
 
 pub entry-addr-one : (w : _) (a : _) (r s : _) (e f : _) → entry-addr.Post w a r e → entry-addr.Post w a s f → r ≡ s
 entry-addr-one w a r s e f p q = λ i. record { 0 = determined p q i }
+
+pub load-one : (w : _) (a : _) (r s : _) (e f : _) → load.Post w a r e → load.Post w a s f
+    → (r ≡ s) × (now (e .0) ∷ now (e .1 .0) ∷ [] ≡ now (f .0) ∷ now (f .1 .0) ∷ [])
+load-one w a r s e f p q = answered-determined _ r s _ _ p q
+
+pub number-refusal-one : (w : _) (a : _) (r s : _) (e f : _) → number-refusal.Post w a r e → number-refusal.Post w a s f → r ≡ s
+number-refusal-one w a r s e f p q = determined p q
 
 pub write-block-for-tile-one : (w : _) (a : _) (r s : _) (e f : _) → write-block-for-tile.Post w a r e → write-block-for-tile.Post w a s f
     → (r ≡ s) × (now (e .0) ∷ now (e .1 .0) ∷ [] ≡ now (f .0) ∷ now (f .1 .0) ∷ [])

@@ -1,17 +1,18 @@
 -- What holds of a load that is not refused.
 use mathlib.Core.Path.{_≡_, refl}
 use mathlib.Core.Bool.{Bool, false}
-use mathlib.Core.List.{List}
+use mathlib.Core.List.{List, [], _∷_}
 use Prim.Native.Nat.{ℕ, _≤_}
 use lib.Dec.{ltb}
 use lib.ListN.{length}
 use borrow.Author.Tests.{ltb-false, not-false, eqb-true}
 use Rattle.rules.specs.Tile.{Tile}
-use Rattle.rules.specs.Refusal.{first}
-use Rattle.rules.specs.Calls.{loadTests, blockOutside, tileLoadOutside, tlutOutside}
+use Rattle.rules.specs.Load.{Store}
+use Rattle.rules.specs.Refusal.{Test, first}
+use Rattle.rules.specs.Calls.{loadTests, loaded, blockOutside, tileLoadOutside, tlutOutside}
 use Rattle.rules.proofs.Ranges.{neither}
-use Rattle.rules.proofs.Refused.{Passed, numbered, passed}
-use Rattle.tmem.specs.Part.{Lent}
+use Rattle.rules.proofs.Refused.{Passed, numbered, passed, done-is}
+use Rattle.tmem.specs.Part.{Lent, Counted}
 
 -- what the tests leave that all loads share
 pub record Within (bank map : List ℕ) (image : ℕ) (outside : Bool) : Type 0 where
@@ -31,7 +32,14 @@ within bank map src t image outside h =
       inside = p .1 .1 .1 .1 .0;
     }
 
--- and what each load's own test leaves
+-- and what a load that is carried out then answers and leaves
+pub loaded-done : (tests : List Test) (l : List Store) (src bank map bank′ map′ : List ℕ) (count : ℕ) → first tests ≡ 0
+    → Counted src l bank map bank′ map′ count
+    → record { refusal = 0; numbers = count ∷ []; buffers = bank′ ∷ map′ ∷ [] } ≡ loaded tests l bank map src
+loaded-done tests l src bank map bank′ map′ count z done =
+    rw (done .count-is, done .carried .bank-is, done .carried .map-is) (done-is tests _ _ _ z)
+
+-- what each load's own test leaves
 pub block-in : (dxt words : ℕ) → blockOutside dxt words ≡ false → (dxt ≤ 4095) × (words ≤ 2048)
 block-in dxt words h =
     let p = neither _ _ h in

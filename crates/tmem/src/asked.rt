@@ -9,7 +9,7 @@ use crate::load_tile::write_tile_rows;
 use crate::load_tlut::write_tlut;
 use crate::place::LoadTile;
 
-pub(crate) enum Asked {
+pub enum Asked {
     // Words one after the other, whose row advances by dxt 2,048ths a word.
     Block {
         dxt: usize,

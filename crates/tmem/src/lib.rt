@@ -1,5 +1,5 @@
 // Texture memory, as tmem.rs has it: the bank, the written marks, a load's stores, and the loads.
-mod asked;
+pub mod asked;
 pub mod bank;
 mod entries;
 mod halfword;

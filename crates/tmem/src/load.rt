@@ -2,7 +2,7 @@
 ghost use mathlib.Core.Path.{_≡_};
 ghost use mathlib.Core.List.{[], _∷_};
 ghost use Rattle.rules.specs.Refusal.{first};
-ghost use Rattle.rules.specs.Calls.{loadTests, blockCall, tileCall, tlutCall};
+ghost use Rattle.rules.specs.Calls.{numberTests, loadTests, blockCall, tileCall, tlutCall};
 ghost use Rattle.rdp.specs.View.{tileOf, answered};
 ghost use Rattle.tmem.specs.Asked.{askedOutside, askedCall};
 use crate::asked::Asked;
@@ -13,9 +13,22 @@ use rdp::refusal;
 use rdp::tile::TileDescriptor;
 
 // The bytes that a source has at most.
-const SOURCE_LIMIT: usize = 65536;
+pub const SOURCE_LIMIT: usize = 65536;
 
-// The first refusal of a load; 0 is none.
+// The first refusal of a load's numbers, for a source of `size` bytes: 2, then 4. 0 is none.
+pub fn number_refusal(size: usize, tile: TileDescriptor, image_siz: u32, asked: Asked) -> u32
+    ensures { λ r. ⌜ r ≡ first (numberTests size (tileOf tile) «image_siz» (askedOutside asked) []) ⌝ }
+{
+    if tile.load_fields_outside() {
+        return refusal::TILE;
+    }
+    if (SOURCE_LIMIT < size) | (3 < image_siz) {
+        return refusal::LOAD;
+    }
+    if asked.outside() { refusal::LOAD } else { 0 }
+}
+
+// The first refusal of a load.
 fn load_refusal(
     bank: &[u8],
     written: &[u8],
@@ -33,17 +46,11 @@ fn load_refusal(
     if written.len() != Bank::SIZE / 8 {
         return refusal::LENGTH;
     }
-    if tile.load_fields_outside() {
-        return refusal::TILE;
-    }
-    if (SOURCE_LIMIT < src.len()) | (3 < image_siz) {
-        return refusal::LOAD;
-    }
-    if asked.outside() { refusal::LOAD } else { 0 }
+    number_refusal(src.len(), tile, image_siz, asked)
 }
 
 // Every load: it refuses, or carries out what is asked, and answers.
-fn load(
+pub fn load(
     bank: &mut [u8],
     written: &mut [u8],
     src: &[u8],

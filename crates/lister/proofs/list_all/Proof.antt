@@ -1,12 +1,12 @@
 -- `lister::list_all` keeps both buffers' lengths and room for a piece's lines. The measure is the number of
 -- turns that are left. Assumes nothing.
-use mathlib.Core.Path.{_≡_, sym}
-use mathlib.Core.Bool.{Bool, true, false, _&&_, true≢false}
+use mathlib.Core.Path.{_≡_}
 use Prim.Native.Nat.{_+_, _<_, _≤_}
 use native.Mathlib.Omega.{arith}
 use lib.ListN.{length}
 use borrow.Author.Needs.{needs}
 use borrow.Author.Tests.{ltb-true}
+use Rattle.rules.proofs.Ranges.{both}
 use Rattle.lister.specs.Piece.{pieceRoom}
 use Rattle.lister.proofs.list_all.Statement.{statement}
 use Rattle.lister.proofs.list_all.Tie as tie
@@ -18,13 +18,9 @@ Inv-loop input₀ text₀ end₀ more₀ turns₀ input text end more turns =
 abbrev μ-loop : tie.MeasureT-loop
 μ-loop input₀ text₀ end₀ more₀ turns₀ input text end more turns = turns
 
-second : (a b : Bool) → (a && b) ≡ true → b ≡ true
-second true b h = h
-second false b h = absurd (true≢false (sym h))
-
 -- in a turn there is a turn left
 left : (c : tie.In-loop Inv-loop μ-loop) → 0 < c .before .loop .turns
-left c = ltb-true _ _ (second (c .before .loop .more) _ (c .loop-test .taken))
+left c = ltb-true _ _ (both (c .before .loop .more) _ (c .loop-test .taken) .1)
 
 loop-holds : tie.Need-loop-holds Inv-loop μ-loop
 loop-holds c = search needs

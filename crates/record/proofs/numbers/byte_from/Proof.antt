@@ -1,10 +1,10 @@
--- `record::fields::byte_at` reads the byte where there is one, and past the end the list's default. Assumes nothing.
+-- `record::numbers::byte_from` reads the byte where there is one, and past the end the list's default. Assumes nothing.
 use mathlib.Core.Path.{refl, sym}
 use native.Mathlib.Omega.{arith}
 use lib.ListN.{List·getD-eq-default}
 use borrow.Author.Needs.{needs}
-use Rattle.record.proofs.fields.byte_at.Statement.{statement}
-use Rattle.record.proofs.fields.byte_at.Tie as tie
+use Rattle.record.proofs.numbers.byte_from.Statement.{statement}
+use Rattle.record.proofs.numbers.byte_from.Tie as tie
 
 shared-slice-read-result : tie.Need-shared-slice-read-result
 shared-slice-read-result c = search needs
@@ -18,5 +18,5 @@ returns c = (refl, omega (arith, c .shared-slice-known .given (c .before .before
 returns-2 : tie.Need-returns-2
 returns-2 c = (sym (List·getD-eq-default (c .before .args .bytes .now) 0 (c .if1 .left)), search needs)
 
-pub byte-at-spec : {M : Type 1} → statement M
-byte-at-spec = tie.close (tie.spec shared-slice-read-result cast-result returns returns-2)
+pub byte-from-spec : {M : Type 1} → statement M
+byte-from-spec = tie.close (tie.spec shared-slice-read-result cast-result returns returns-2)

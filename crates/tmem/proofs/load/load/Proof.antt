@@ -1,13 +1,12 @@
 -- `tmem::load::load` refuses, or carries out what is asked. Assumes nothing.
 use mathlib.Core.Path.{_≡_, sym, _∙_}
-use mathlib.Core.List.{[], _∷_}
 use borrow.Author.Needs.{needs}
 use Rattle.rules.specs.Refusal.{first}
 use Rattle.rules.specs.Calls.{loadTests}
-use Rattle.rules.proofs.Refused.{refused-is, done-is}
+use Rattle.rules.proofs.Refused.{refused-is}
 use Rattle.rdp.specs.View.{tileOf}
 use Rattle.tmem.specs.Asked.{askedOutside}
-use Rattle.tmem.proofs.Within.{within}
+use Rattle.tmem.proofs.Within.{within, loaded-done}
 use Rattle.tmem.proofs.load.load.Statement.{statement}
 use Rattle.tmem.proofs.load.load.Tie as tie
 
@@ -47,13 +46,7 @@ same-length-4 c = search needs
 returns-2 : tie.Need-returns-2
 returns-2 c =
     let d = c .before .before .before .before in
-    let done = rw (d .before .load-fields .ensures) at (d .write .ensures) in
-    (λ i. record {
-      refusal = 0;
-      numbers = done .count-is i ∷ [];
-      buffers = done .carried .bank-is i ∷ done .carried .map-is i ∷ [];
-    })
-    ∙ done-is _ _ _ _ (passes (d .before .before .before .before))
+    loaded-done _ _ _ _ _ _ _ _ (passes (d .before .before .before .before)) (rw (d .before .load-fields .ensures) at (d .write .ensures))
 
 pub load-spec : {M : Type 1} → statement M
 load-spec =
