@@ -1,0 +1,31 @@
+-- What a record's load is asked for, by its kind.
+use mathlib.Core.Path.{_≡_}
+use mathlib.Core.List.{List}
+use Prim.Native.Nat.{ℕ}
+use borrow.Author.Tests.{eq-eqb, ne-eqb}
+use Rattle.rules.specs.Load.{loadTile}
+use Rattle.rules.specs.Replay.{kindIn, tileIn, imageIn, dxtIn, wordsIn, rowsIn, countIn, strideIn, storesIn, outsideIn}
+use Rattle.tmem.specs.Asked.{askedOutside, askedStores}
+use Rattle.tmem.specs.declared.asked.Asked.{Asked}
+use Rattle.tmem.specs.declared.asked.Asked.the-variants.{Block, Tile, Tlut}
+
+-- it is what the record says
+abbrev pub Says : List ℕ → Asked → Type 0
+Says r asked =
+    (askedOutside asked ≡ outsideIn r) × (askedStores (loadTile (tileIn r)) (imageIn r) asked ≡ storesIn r)
+
+module _ (r : List ℕ) where
+  pub says-block : (dxt words : ℕ) → kindIn r ≡ 0 → dxt ≡ dxtIn r → words ≡ wordsIn r → Says r (Block dxt words)
+  unfolding outsideIn storesIn
+  says-block dxt words k d w = (rw (d, w, eq-eqb _ _ k), rw (d, w, eq-eqb _ _ k))
+
+  module _ (rows stride : ℕ) (not-block : kindIn r ≡ 0 → ⊥) (e : rows ≡ rowsIn r) (s : stride ≡ strideIn r) where
+    pub says-tile : (words : ℕ) → kindIn r ≡ 1 → words ≡ wordsIn r → Says r (Tile rows words stride)
+    unfolding outsideIn storesIn
+    says-tile words k w =
+        (rw (e, s, w, ne-eqb _ _ not-block, eq-eqb _ _ k), rw (e, s, w, ne-eqb _ _ not-block, eq-eqb _ _ k))
+
+    pub says-tlut : (count : ℕ) → (kindIn r ≡ 1 → ⊥) → count ≡ countIn r → Says r (Tlut count rows stride)
+    unfolding outsideIn storesIn
+    says-tlut count k n =
+        (rw (e, s, n, ne-eqb _ _ not-block, ne-eqb _ _ k), rw (e, s, n, ne-eqb _ _ not-block, ne-eqb _ _ k))

@@ -1,0 +1,214 @@
+// A run of records, with a piece of the companion file at hand: the file's length `end`, where the piece starts, and its bytes.
+ghost use mathlib.Core.Path.{_≡_};
+ghost use mathlib.Core.Bool.{true};
+ghost use mathlib.Core.List.{[], _∷_};
+ghost use Prim.Native.Nat.{_+_, _*_, _<_, _≤_, min};
+ghost use lib.ListN.{length};
+ghost use Rattle.rules.specs.Base.{recordOf};
+ghost use Rattle.rules.specs.Tile.{bankSize, mapSize};
+ghost use Rattle.rules.specs.Refusal.{first};
+ghost use Rattle.rules.specs.Replay.{replaySize, replayRoom, carried, piece, takesPart, atHand, inPiece, ready};
+ghost use Rattle.rules.specs.Replay.{recordCount, recordsIn, firstRecords, runTests, runCall};
+ghost use Rattle.rdp.specs.View.{answered, runAnswered};
+ghost use Rattle.replaying.specs.Run.{Replayed, Run};
+use crate::fields::asks_key;
+use crate::fields::offset_in;
+use crate::fields::size_in;
+use crate::line::put_line;
+use crate::refusals::record_refusal;
+use crate::step::replay_step;
+use decimal::number::NUMBER_ROOM;
+use rdp::answer::Answer;
+use rdp::answer::RunAnswer;
+use rdp::refusal;
+use tmem::bank::Bank;
+
+// The bytes of a record.
+pub const RECORD: usize = 48;
+
+// The bytes of the longest line: two numbers with a byte after each.
+pub const LINE_ROOM: usize = 2 * NUMBER_ROOM;
+
+// The record is a load that no test refuses.
+fn takes_part(bytes: &[u8], end: u64) -> bool
+    ensures { λ r. ⌜ r ≡ takesPart end (now (bytes .entry)) ⌝ }
+{
+    (record_refusal(bytes, end) == 0) & !asks_key(bytes)
+}
+
+// The record's part is in the piece, or it takes none.
+fn at_hand(bytes: &[u8], end: u64, start: u64, held: &[u8]) -> bool
+    ensures { λ r. ⌜ r ≡ atHand (piece end start (now (held .entry))) (now (bytes .entry)) ⌝ }
+{
+    if !takes_part(bytes, end) {
+        return true;
+    }
+    let offset = offset_in(bytes);
+    if offset < start {
+        return false;
+    }
+    offset + size_in(bytes) - start <= held.len() as u64
+}
+
+// How many records an input has; a torn tail is the last.
+fn record_count(input: &[u8]) -> usize
+    ensures { λ r. ⌜ r ≡ recordCount (now (input .entry)) ⌝ }
+{
+    let whole = input.len() / RECORD;
+    if input.len() % RECORD == 0 {
+        whole
+    } else {
+        whole + 1
+    }
+}
+
+// Where record i ends.
+fn record_end(input: &[u8], i: usize) -> usize
+    requires { ⌜ i < recordCount (now input) ⌝ }
+    ensures { λ r. ⌜ r ≡ min (i * replaySize + replaySize) (length (now (input .entry))) ⌝ }
+{
+    let start = i * RECORD;
+    if input.len() - start < RECORD {
+        input.len()
+    } else {
+        start + RECORD
+    }
+}
+
+// How many records come before the first whose part is not at hand.
+fn ready_count(input: &[u8], end: u64, start: u64, held: &[u8]) -> usize
+    ensures { λ r. ⌜ r ≡ ready (piece end start (now (held .entry))) (recordsIn (now (input .entry))) ⌝ }
+{
+    let count = record_count(input);
+    for i in 0..count {
+        let from = i * RECORD;
+        let to = record_end(input, i);
+        if !at_hand(&input[from..to], end, start, held) {
+            return i;
+        }
+    }
+    count
+}
+
+// A record whose part is at hand.
+fn replay_at_hand(
+    bank: &mut [u8],
+    written: &mut [u8],
+    bytes: &[u8],
+    end: u64,
+    start: u64,
+    held: &[u8],
+) -> Answer
+    requires { ⌜ (length (now bank) ≡ bankSize) × (length (now written) ≡ mapSize) ⌝ }
+    requires { ⌜ atHand (piece end start (now held)) (now bytes) ≡ true ⌝ }
+    ensures { λ r. ⌜ answered r (now (bank .exit) ∷ now (written .exit) ∷ [])
+        ≡ inPiece (piece end start (now (held .entry))) (now (bytes .entry)) (carried (now (bank .entry)) (now (written .entry))) ⌝ }
+{
+    if !takes_part(bytes, end) {
+        return replay_step(bank, written, bytes, end, &held[..0]);
+    }
+    let from = (offset_in(bytes) - start) as usize;
+    let to = from + size_in(bytes) as usize;
+    replay_step(bank, written, bytes, end, &held[from..to])
+}
+
+// The line of record i, from `at` on. The new end is answered.
+fn replay_next(
+    bank: &mut [u8],
+    written: &mut [u8],
+    input: &[u8],
+    i: usize,
+    end: u64,
+    start: u64,
+    held: &[u8],
+    out: &mut [u8],
+    at: usize,
+) -> usize
+    requires { ⌜ (length (now bank) ≡ bankSize) × (length (now written) ≡ mapSize) ⌝ }
+    requires { ⌜ i < recordCount (now input) ⌝ }
+    requires { ⌜ atHand (piece end start (now held)) (recordOf replaySize (now input) i) ≡ true ⌝ }
+    requires { ⌜ at + replayRoom ≤ length (now out) ⌝ }
+    ensures { λ r. ⌜ Replayed (piece end start (now (held .entry))) (recordOf replaySize (now (input .entry)) i)
+        (carried (now (bank .entry)) (now (written .entry))) (now (out .entry)) at
+        (carried (now (bank .exit)) (now (written .exit))) (now (out .exit)) r ⌝ }
+{
+    let from = i * RECORD;
+    let to = record_end(input, i);
+    let answer = replay_at_hand(bank, written, &input[from..to], end, start, held);
+    put_line(answer, out, at)
+}
+
+// The lines of the first `count` records, which are ready, at the front of `out`. Their end is answered.
+fn replay_ready(
+    bank: &mut [u8],
+    written: &mut [u8],
+    input: &[u8],
+    count: usize,
+    end: u64,
+    start: u64,
+    held: &[u8],
+    out: &mut [u8],
+) -> usize
+    requires { ⌜ (length (now bank) ≡ bankSize) × (length (now written) ≡ mapSize) ⌝ }
+    requires { ⌜ count ≡ ready (piece end start (now held)) (recordsIn (now input)) ⌝ }
+    requires { ⌜ replayRoom * recordCount (now input) ≤ length (now out) ⌝ }
+    ensures { λ r. ⌜ Run (piece end start (now (held .entry))) (firstRecords (now (input .entry)) count)
+        (carried (now (bank .entry)) (now (written .entry))) (now (out .entry))
+        (carried (now (bank .exit)) (now (written .exit))) (now (out .exit)) r ⌝ }
+{
+    let mut at = 0;
+    for i in 0..count {
+        at = replay_next(bank, written, input, i, end, start, held, out, at);
+    }
+    at
+}
+
+// The run's first refusal: 1, then 6.
+fn run_refusal(bank: &[u8], written: &[u8], input: &[u8], out: &[u8]) -> u32
+    ensures { λ r. ⌜ r ≡ first (runTests (now (bank .entry)) (now (written .entry)) (now (input .entry)) (now (out .entry))) ⌝ }
+{
+    if bank.len() != Bank::SIZE {
+        return refusal::LENGTH;
+    }
+    if written.len() != Bank::SIZE / 8 {
+        return refusal::LENGTH;
+    }
+    if out.len() < LINE_ROOM * record_count(input) {
+        refusal::BUFFER
+    } else {
+        0
+    }
+}
+
+// Replays the records of an input, up to the first whose part of the companion file is not in the piece at hand. It answers how many
+// those are, and where their lines end, at the front of `out`; or its refusal (1, 6), and every buffer as it was lent. With the whole
+// file at hand, every record is replayed.
+pub fn replay_run(
+    bank: &mut [u8],
+    written: &mut [u8],
+    input: &[u8],
+    end: u64,
+    start: u64,
+    held: &[u8],
+    out: &mut [u8],
+) -> RunAnswer
+    ensures { λ r. ⌜ runAnswered r (now (bank .exit) ∷ now (written .exit) ∷ now (out .exit) ∷ [])
+        ≡ runCall (now (bank .entry)) (now (written .entry)) (now (input .entry)) (piece end start (now (held .entry)))
+        (now (out .entry)) ⌝ }
+{
+    let no = run_refusal(bank, written, input, out);
+    if no != 0 {
+        return RunAnswer {
+            refusal: no,
+            records: 0,
+            end: 0,
+        };
+    }
+    let records = ready_count(input, end, start, held);
+    let at = replay_ready(bank, written, input, records, end, start, held, out);
+    RunAnswer {
+        refusal: 0,
+        records,
+        end: at,
+    }
+}

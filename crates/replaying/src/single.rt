@@ -1,0 +1,77 @@
+// One record of a replay.
+ghost use mathlib.Core.Path.{_≡_};
+ghost use mathlib.Core.Bool.{not, _&&_};
+ghost use mathlib.Core.List.{[], _∷_};
+ghost use Prim.Native.Nat.{min};
+ghost use lib.Dec.{ltb};
+ghost use lib.ListN.{length};
+ghost use Rattle.rules.specs.Refusal.{first};
+ghost use Rattle.rules.specs.Replay.{sizeIn, asksKey, replayTests, replayCall};
+ghost use Rattle.rdp.specs.View.{answered};
+use crate::fields::asks_key;
+use crate::fields::size_in;
+use crate::refusals::record_refusal;
+use crate::step::replay_step;
+use rdp::answer::Answer;
+use rdp::refusal;
+use tmem::bank::Bank;
+
+// A load's part ends before the bytes that the record states.
+fn is_short(bytes: &[u8], part: &[u8]) -> bool
+    ensures { λ r. ⌜ r ≡ (not (asksKey (now (bytes .entry))) && ltb (length (now (part .entry))) (sizeIn (now (bytes .entry)))) ⌝ }
+{
+    !asks_key(bytes) & ((part.len() as u64) < size_in(bytes))
+}
+
+// The call's first refusal.
+fn replay_refusal(bank: &[u8], written: &[u8], bytes: &[u8], end: u64, part: &[u8]) -> u32
+    ensures { λ r. ⌜ r ≡ first (replayTests (now (bank .entry)) (now (written .entry)) (now (bytes .entry)) end (now (part .entry))) ⌝ }
+{
+    if bank.len() != Bank::SIZE {
+        return refusal::LENGTH;
+    }
+    if written.len() != Bank::SIZE / 8 {
+        return refusal::LENGTH;
+    }
+    let no = record_refusal(bytes, end);
+    if no != 0 {
+        return no;
+    }
+    if is_short(bytes, part) {
+        refusal::BEYOND
+    } else {
+        0
+    }
+}
+
+// The bytes of the part that the record names.
+fn named(bytes: &[u8], part: &[u8]) -> usize
+    ensures { λ r. ⌜ r ≡ min (sizeIn (now (bytes .entry))) (length (now (part .entry))) ⌝ }
+{
+    let size = size_in(bytes) as usize;
+    if size < part.len() { size } else { part.len() }
+}
+
+// One record over a lent bank and written map. The companion file has `end` bytes, and `part` holds those from the record's offset
+// on, of which exactly the stated ones are read. It answers the count of its stores, or for a key of its kept bytes; or its refusal
+// (1, 8, 10, 2, 3, 4, 11, 5), and bank and map as they were lent.
+pub fn replay_record(
+    bank: &mut [u8],
+    written: &mut [u8],
+    bytes: &[u8],
+    end: u64,
+    part: &[u8],
+) -> Answer
+    ensures { λ r. ⌜ answered r (now (bank .exit) ∷ now (written .exit) ∷ [])
+        ≡ replayCall (now (bank .entry)) (now (written .entry)) (now (bytes .entry)) end (now (part .entry)) ⌝ }
+{
+    let no = replay_refusal(bank, written, bytes, end, part);
+    if no != 0 {
+        return Answer {
+            refusal: no,
+            count: 0,
+        };
+    }
+    let size = named(bytes, part);
+    replay_step(bank, written, bytes, end, &part[..size])
+}
