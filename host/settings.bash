@@ -43,15 +43,22 @@ kit() {
     echo "${RATTLE_HOME:-$(dirname "$(dirname "$(readlink -f "$(command -v rt)")")")}"
 }
 
-# run_x86_64 PROGRAM [ARGUMENTS..]: runs a program of x86-64 code, on another processor under the toolchain's emulator.
-run_x86_64() {
-    if [ "$machine" = x86_64 ]; then
-        "$@"
-    else
+# words_x86_64 PROGRAM [ARGUMENTS..]: sets the array `words` to the command that runs a program of x86-64 code, on another
+# processor under the toolchain's emulator.
+words_x86_64() {
+    words=("$@")
+    if [ "$machine" != x86_64 ]; then
         local tools
         tools=$(kit)/on/$machine/toolchain
-        "$tools/bin/qemu-x86_64" "$tools/lib/ld-linux-x86-64.so.2" --library-path "$tools/lib" "$@"
+        words=("$tools/bin/qemu-x86_64" "$tools/lib/ld-linux-x86-64.so.2" --library-path "$tools/lib" "$@")
     fi
+}
+
+# run_x86_64 PROGRAM [ARGUMENTS..]: runs it.
+run_x86_64() {
+    local words
+    words_x86_64 "$@"
+    "${words[@]}"
 }
 
 # retarget KIT FOLDER: in the folder, a toolchain like the installed one whose compiler compiles for this processor.

@@ -2,7 +2,7 @@
  *
  * The texture memory is a bank of 4,096 bytes. The library loads it (block, tile, palette), makes pictures of it, says
  * which of its bytes a tile can reach, and cuts a key for a picture: the bank with the bytes that making the picture
- * reads kept, and all others zero.
+ * reads kept, and all others zero. It also replays a capture, which is a file of records of such loads and keys.
  *
  * Rules that hold for every call:
  *
@@ -10,7 +10,7 @@
  *   no state of its own, so calls on different buffers may run at the same time.
  * - Buffers of one call must not overlap. A buffer of length 0 may have a null pointer.
  * - Every number is taken. One that is out of range, or a buffer of a wrong length, is refused with a number (TK_REFUSED_..
- *   below). Each call tests only what it has a use for, in the order in which its comment lists its refusals.
+ *   below). Each call tests only what it has a use for, in this order: 1, 8, 10, 2, 3, 4, 11, 5, 6, 7, 9.
  * - A refused call changes no buffer, and its other answers are 0.
  * - Success is the refusal 0, TK_DONE.
  *
@@ -39,6 +39,7 @@ extern "C" {
 #define TK_SOURCE_MOST 65536   /* a load's source has at most this many bytes */
 #define TK_SIDE_MOST 1024      /* width and height are at most this */
 #define TK_TEXEL_READS_MOST 4  /* a texel reads at most this many bytes of the bank */
+#define TK_RECORD_BYTES 48     /* a record of a capture */
 
 /* ---- Refusals ------------------------------------------------------------------------------------------------------- */
 
@@ -51,8 +52,10 @@ enum {
     TK_REFUSED_PAIR = 5,         /* the mode does not accept this pair of format and size */
     TK_REFUSED_PICTURE = 6,      /* the picture's buffer is shorter than 4 bytes a texel */
     TK_REFUSED_TRAIL = 7,        /* the trail's buffer is shorter than 2 bytes a read */
-    TK_REFUSED_TORN = 8,         /* the lister program only: its input ends inside a record */
-    TK_REFUSED_UNKNOWN = 9       /* the texel step does not know the pair */
+    TK_REFUSED_TORN = 8,         /* a capture's record has fewer than 48 bytes, or a program's input ends inside a record */
+    TK_REFUSED_UNKNOWN = 9,      /* the texel step does not know the pair */
+    TK_REFUSED_KIND = 10,        /* the kind of a capture's record is above 3 */
+    TK_REFUSED_BEYOND = 11       /* the source of a capture's record goes beyond the companion file */
 };
 
 /* ---- Answers -------------------------------------------------------------------------------------------------------- */
@@ -185,9 +188,41 @@ uint32_t tk_palette_nonreplicated(const uint8_t *bank, size_t bank_length, uint8
 tk_answer tk_key(const uint8_t *bank, size_t bank_length, TK_TILE_PARAMETERS, uint32_t lane, uint8_t *key,
                  size_t key_length);
 
+/* ---- Replay of a capture -------------------------------------------------------------------------------------------- */
+
+/* Does one record of a capture: a load, as tk_load_.. do it, or the question for a picture's key. The sources of all loads
+ * stand in one companion file, and a record names its own by offset and length. Numbers of several bytes are high byte first.
+ *
+ *     byte  0         kind: 0 block, 1 tile, 2 palette, 3 key
+ *           1         lane
+ *           2 to 9    fmt, siz, palette, mode, cms, cmt, masks, maskt, a byte each
+ *          10 to 17   line, tmem_addr, width, height, two bytes each
+ *          18 to 29   image_siz, dxt, words, rows, count, stride, two bytes each
+ *          30 to 37   offset and length of the source, four bytes each
+ *          38 to 47   nothing
+ *
+ * A load takes fmt, siz, line, tmem_addr, image_siz, offset and length; and dxt and words (block), rows, words and stride
+ * (tile) or count, rows and stride (palette). A key takes lane and bytes 2 to 17. Fields that a kind does not take, and bytes
+ * of `record` after the 48th, may hold anything.
+ *
+ * end: the bytes of the companion file. part: its bytes from the record's offset on. The first `length` of them are the
+ * source; further ones are not read. A key needs no part.
+ *
+ * A load changes bank and written map and answers the count of stores. A key changes nothing and answers the count of bytes
+ * that tk_key would keep of the bank as it stands.
+ * Refuses 1 (bank, written), 8, 10; then a load 2, 4 (length above 65,536 too), 11 (offset + length above end, or a part
+ * shorter than length); and a key 2, 3, 5, 9.
+ *
+ * A capture is replayed by a call for each record in turn, beginning with a bank and a map of zeros. A refusal does not stop
+ * it: that record changes nothing. */
+tk_answer tk_replay_record(uint8_t *bank, size_t bank_length, uint8_t *written, size_t written_length,
+                           const uint8_t *record, size_t record_length, uint64_t end, const uint8_t *part,
+                           size_t part_length);
+
 /* ---- The same calls on a tk_tile ------------------------------------------------------------------------------------ */
 
-/* Here a bank or key is a pointer to TK_BANK_BYTES, a written or reach map to TK_MAP_BYTES, a lane map to TK_LANE_MAP_BYTES. */
+/* Here a bank or key is a pointer to TK_BANK_BYTES, a written or reach map to TK_MAP_BYTES, a lane map to TK_LANE_MAP_BYTES,
+ * a record to TK_RECORD_BYTES. */
 
 static inline tk_answer tk_load_block_of(uint8_t *bank, uint8_t *written, const uint8_t *source, size_t source_length,
                                          const tk_tile *tile, uint32_t image_siz, uint32_t dxt, uint32_t words) {
@@ -249,6 +284,11 @@ static inline uint32_t tk_palette_nonreplicated_of(const uint8_t *bank, uint8_t 
 
 static inline tk_answer tk_key_of(const uint8_t *bank, const tk_tile *tile, uint32_t lane, uint8_t *key) {
     return tk_key(bank, TK_BANK_BYTES, TK_TILE_ARGUMENTS(tile), lane, key, TK_BANK_BYTES);
+}
+
+static inline tk_answer tk_replay_record_of(uint8_t *bank, uint8_t *written, const uint8_t *record, uint64_t end,
+                                            const uint8_t *part, size_t part_length) {
+    return tk_replay_record(bank, TK_BANK_BYTES, written, TK_MAP_BYTES, record, TK_RECORD_BYTES, end, part, part_length);
 }
 
 /* Whether address a is marked in a map. */

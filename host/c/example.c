@@ -1,4 +1,5 @@
-/* An example: load a block, make a picture of it and the picture's key, and print the bytes that the key keeps. */
+/* An example: load a block, make a picture of it and the picture's key, and print the bytes that the key keeps. Then replay a
+ * capture of the same load and key. */
 
 #include <inttypes.h>
 #include <stdio.h>
@@ -49,6 +50,19 @@ int main(void) {
     /* A kept byte may be zero, as the others are; here none is. */
     for (uint32_t a = 0; a < TK_BANK_BYTES; a++) {
         if (key[a] != 0) printf("%" PRIu32 ": %02x\n", a, key[a]);
+    }
+
+    /* A capture whose companion file is the source above. The bytes that a record does not name here are 0. */
+    static const uint8_t capture[2][TK_RECORD_BYTES] = {
+        /* kind block, siz 2, image_siz 2, dxt 2,048, two words, a source of sixteen bytes at offset 0 */
+        {[0] = 0, [3] = 2, [19] = 2, [20] = 2048 / 256, [23] = 2, [37] = sizeof source},
+        /* kind key, siz 2, line 1, width 4, height 2 */
+        {[0] = 3, [3] = 2, [11] = 1, [15] = 4, [17] = 2},
+    };
+    static uint8_t fresh_bank[TK_BANK_BYTES], fresh_map[TK_MAP_BYTES];
+    for (size_t i = 0; i < 2; i++) {
+        tk_answer done = tk_replay_record_of(fresh_bank, fresh_map, capture[i], sizeof source, source, sizeof source);
+        printf("replayed: %" PRIu32 " %" PRIu32 "\n", done.refusal, done.count);
     }
     return 0;
 }

@@ -8,7 +8,7 @@
 
 static uint8_t bank[TK_BANK_BYTES], written[TK_MAP_BYTES], map[TK_MAP_BYTES], lanes[TK_LANE_MAP_BYTES], key[TK_BANK_BYTES];
 static uint8_t picture[4 * TK_LOOKUP_TEXELS], trail[2 * TK_TEXEL_READS_MOST * TK_LOOKUP_TEXELS];
-static uint8_t source[64];
+static uint8_t source[64], part[TK_SOURCE_MOST + 1];
 static int wrong;
 
 static void check(int holds, const char *what, int line) {
@@ -87,6 +87,75 @@ static void check_loads(void) {
     }
     CHECK(tk_load_tlut(bank, sizeof bank, written, sizeof written, source, sizeof source, 0, 0, 0, 0, 0, 1, 0, 0).refusal ==
           4);
+}
+
+/* What a record's fields are held against: where each stands, its bytes, the most that a block, tile, palette and key take of
+ * it, and the refusal of more. */
+enum { ANY = -1 };
+static const struct {
+    size_t place, bytes;
+    int32_t most[4];
+    uint32_t refusal;
+} fields[] = {
+    {1, 1, {ANY, ANY, ANY, 3}, 3},
+    {2, 1, {7, 7, 7, 7}, 2},
+    {3, 1, {3, 3, 3, 3}, 2},
+    {4, 1, {ANY, ANY, ANY, 15}, 2},
+    {5, 1, {ANY, ANY, ANY, 3}, 3},
+    {6, 1, {ANY, ANY, ANY, 3}, 2},
+    {7, 1, {ANY, ANY, ANY, 3}, 2},
+    {8, 1, {ANY, ANY, ANY, 15}, 2},
+    {9, 1, {ANY, ANY, ANY, 15}, 2},
+    {10, 2, {511, 511, 511, 511}, 2},
+    {12, 2, {511, 511, 511, 511}, 2},
+    {14, 2, {ANY, ANY, ANY, 1024}, 2},
+    {16, 2, {ANY, ANY, ANY, 1024}, 2},
+    {18, 2, {3, 3, 3, ANY}, 4},
+    {20, 2, {4095, ANY, ANY, ANY}, 4},
+    {22, 2, {2048, 512, ANY, ANY}, 4},
+    {24, 2, {ANY, 1024, 1024, ANY}, 4},
+    {26, 2, {ANY, ANY, 1024, ANY}, 4},
+    {28, 2, {ANY, ANY, ANY, ANY}, 0},
+    {30, 4, {sizeof part, sizeof part, sizeof part, ANY}, 11},
+    {34, 4, {65536, 65536, 65536, ANY}, 4},
+    {38, 4, {ANY, ANY, ANY, ANY}, 0},
+    {42, 4, {ANY, ANY, ANY, ANY}, 0},
+    {46, 2, {ANY, ANY, ANY, ANY}, 0},
+};
+
+/* A record of a kind with one field set. Its mode is 2, which accepts every pair, its rows 1, and all else 0. */
+static uint32_t replayed_with(uint8_t kind, size_t place, size_t bytes, uint32_t number) {
+    uint8_t record[TK_RECORD_BYTES] = {[0] = kind, [5] = 2, [25] = 1};
+    for (size_t i = bytes; i > 0; i--, number >>= 8) record[place + i - 1] = (uint8_t)number;
+    return tk_replay_record_of(bank, written, record, sizeof part, part, sizeof part).refusal;
+}
+
+/* Each field of a record is taken up to its limit and refused past it, and one that a kind does not take may hold anything. */
+static void check_fields(void) {
+    for (uint8_t kind = 0; kind < 4; kind++) {
+        for (size_t i = 0; i < sizeof fields / sizeof *fields; i++) {
+            int32_t most = fields[i].most[kind];
+            CHECK(replayed_with(kind, fields[i].place, fields[i].bytes, (uint32_t)most) == 0);
+            if (most == ANY) continue;
+            CHECK(replayed_with(kind, fields[i].place, fields[i].bytes, (uint32_t)most + 1) == fields[i].refusal);
+        }
+    }
+    CHECK(replayed_with(4, 2, 1, 8) == 10);
+    CHECK(replayed_with(255, 2, 1, 7) == 10);
+}
+
+/* A record's other arguments: the length of each buffer, and the companion's, which needs more than 32 bits. */
+static void check_record(void) {
+    /* a block of no words, of eight bytes at offset 2^32 - 1 */
+    static const uint8_t record[TK_RECORD_BYTES + 1] = {[30] = 255, [31] = 255, [32] = 255, [33] = 255, [37] = 8};
+    uint64_t end = 0x100000007;
+    CHECK(tk_replay_record(bank, 4096, written, 512, record, 48, end, part, 8).refusal == 0);
+    CHECK(tk_replay_record(bank, 4096, written, 512, record, 49, UINT64_MAX, part, 9).refusal == 0);
+    CHECK(tk_replay_record(bank, 4095, written, 512, record, 48, end, part, 8).refusal == 1);
+    CHECK(tk_replay_record(bank, 4096, written, 511, record, 48, end, part, 8).refusal == 1);
+    CHECK(tk_replay_record(bank, 4096, written, 512, record, 47, end, part, 8).refusal == 8);
+    CHECK(tk_replay_record(bank, 4096, written, 512, record, 48, end - 1, part, 8).refusal == 11);
+    CHECK(tk_replay_record(bank, 4096, written, 512, record, 48, end, part, 7).refusal == 11);
 }
 
 /* Lengths and lane: each buffer one short, and a lane of 4. */
@@ -177,6 +246,31 @@ static void check_answers(void) {
           bank[56] == 118);
 }
 
+/* The same loads by records, with sources at offsets of the companion; and the key of the tile of check_answers. */
+static void check_replay(void) {
+    static const uint8_t block[TK_RECORD_BYTES] = {[0] = 0, [3] = 2, [11] = 1, [13] = 2, [19] = 2, [23] = 1, [37] = 8};
+    static const uint8_t tile[TK_RECORD_BYTES] = {
+        [0] = 1, [3] = 2, [11] = 1, [13] = 2, [19] = 2, [23] = 1, [25] = 2, [29] = 16, [33] = 1, [37] = 20};
+    static const uint8_t tlut[TK_RECORD_BYTES] = {
+        [0] = 2, [3] = 2, [11] = 1, [13] = 2, [19] = 0, [25] = 2, [27] = 2, [29] = 16, [33] = 2, [37] = 20};
+    static const uint8_t key_of_tile[TK_RECORD_BYTES] = {3, 0, 4, 1, 1, 1, 2, 2, 1, 1, 0, 1, 0, 2, 0, 3, 0, 2};
+    memset(bank, 0, sizeof bank);
+    memset(written, 0, sizeof written);
+    tk_answer answer = tk_replay_record_of(bank, written, block, sizeof source, source, sizeof source);
+    CHECK(answer.refusal == 0 && answer.count == 8 && bank[16] == 100 && bank[23] == 107 && bank[24] == 0);
+    CHECK(written[2] == 255 && written[3] == 0);
+    answer = tk_replay_record_of(bank, written, tile, sizeof source, source + 1, sizeof source - 1);
+    CHECK(answer.refusal == 0 && answer.count == 16 && bank[16] == 101 && bank[28] == 117 && written[3] == 255);
+    CHECK(bank[31] == 120 && bank[24] == 0); /* the source ends inside the second row */
+    answer = tk_replay_record_of(bank, written, tlut, sizeof source, source + 2, sizeof source - 2);
+    CHECK(answer.refusal == 0 && answer.count == 32 && bank[16] == 102 && bank[24] == 104 && bank[48] == 118 &&
+          bank[56] == 120);
+    uint8_t before[TK_BANK_BYTES];
+    memcpy(before, bank, sizeof bank);
+    answer = tk_replay_record_of(bank, written, key_of_tile, 0, NULL, 0);
+    CHECK(answer.refusal == 0 && answer.count == 6 && memcmp(before, bank, sizeof bank) == 0);
+}
+
 /* An empty buffer may be null. */
 static void check_null(void) {
     tk_tile tile = with(plain_tile(), 10, 0);
@@ -195,13 +289,20 @@ static void check_null(void) {
     CHECK(tk_tile_has_load(TK_TILE_ARGUMENTS(t), NULL, 0).refusal == 1);
     CHECK(tk_palette_nonreplicated(NULL, 0, NULL, 0) == 1);
     CHECK(tk_key(NULL, 0, TK_TILE_ARGUMENTS(t), 0, NULL, 0).refusal == 1);
+    static const uint8_t empty_block[TK_RECORD_BYTES];
+    CHECK(tk_replay_record_of(bank, written, empty_block, 0, NULL, 0).refusal == 0);
+    CHECK(tk_replay_record(bank, sizeof bank, written, sizeof written, NULL, 0, 0, NULL, 0).refusal == 8);
+    CHECK(tk_replay_record(NULL, 0, NULL, 0, NULL, 0, 0, NULL, 0).refusal == 1);
 }
 
 int main(void) {
     check_the_twelve();
     check_loads();
     check_lengths();
+    check_fields();
+    check_record();
     check_answers();
+    check_replay();
     check_null();
     return wrong;
 }

@@ -1,10 +1,10 @@
-/* Rough handling: every entry, called with numbers of the full range and buffers of any length.
+/* Rough handling: every entry, called with numbers of the full range, buffers of any length and records of any bytes.
  *
  *     rough SECONDS SEED [CALLS]      until the time is up, or for so many calls
  *
  * Each buffer lies against a page that cannot be touched, at its end or at its start, so that the archive cannot reach
- * outside it unseen. After each call its refusal is held against document 01's table, worked out here on its own, its other
- * answers against 0 where it refused, and every byte that must not have changed against a copy. */
+ * outside it unseen. After each call its refusal is held against the tables of documents 01 and 02, worked out here on their
+ * own, its other answers against 0 where it refused, and every byte that must not have changed against a copy. */
 
 #include <stdbool.h>
 #include <stdio.h>
@@ -44,16 +44,23 @@ typedef struct buffer {
     size_t length;
 } buffer;
 
-enum { BANK, WRITTEN, SOURCE, PICTURE, TRAIL, MAP, LANES, KEY, BUFFERS };
+/* SOURCE is also the part of the companion that a replay takes. */
+enum { BANK, WRITTEN, SOURCE, PICTURE, TRAIL, MAP, LANES, KEY, RECORD, BUFFERS };
 
 static buffer buffers[BUFFERS];
-static const char *const buffer_names[BUFFERS] = {"bank",  "written map", "source",   "picture",
-                                                  "trail", "reach map",   "lane map", "key"};
+static const char *const buffer_names[BUFFERS] = {"bank",      "written map", "source", "picture", "trail",
+                                                  "reach map", "lane map",    "key",    "record"};
 
-/* The right lengths of bank, written map, reach map, lane map and key; the most for the others. */
-static const size_t right_length[BUFFERS] = {
-    TK_BANK_BYTES, TK_MAP_BYTES,      TK_SOURCE_MOST, 4 * TK_SIDE_MOST *TK_SIDE_MOST, 8 * TK_SIDE_MOST *TK_SIDE_MOST,
-    TK_MAP_BYTES,  TK_LANE_MAP_BYTES, TK_BANK_BYTES};
+/* The right lengths of bank, written map, reach map, lane map, key and record; the most for the others. */
+static const size_t right_length[BUFFERS] = {TK_BANK_BYTES,
+                                             TK_MAP_BYTES,
+                                             TK_SOURCE_MOST,
+                                             4 * TK_SIDE_MOST *TK_SIDE_MOST,
+                                             8 * TK_SIDE_MOST *TK_SIDE_MOST,
+                                             TK_MAP_BYTES,
+                                             TK_LANE_MAP_BYTES,
+                                             TK_BANK_BYTES,
+                                             TK_RECORD_BYTES};
 
 static void make_buffer(buffer *b, size_t least) {
     size_t page = (size_t)sysconf(_SC_PAGESIZE);
@@ -93,6 +100,7 @@ enum {
     TILE_HAS_LOAD,
     PALETTE_NONREPLICATED,
     CUT_KEY,
+    REPLAY_RECORD,
     ENTRIES
 };
 
@@ -107,7 +115,8 @@ static const char *const entry_names[ENTRIES] = {"tk_load_block",
                                                  "tk_reach",
                                                  "tk_tile_has_load",
                                                  "tk_palette_nonreplicated",
-                                                 "tk_key"};
+                                                 "tk_key",
+                                                 "tk_replay_record"};
 
 /* What an entry takes, and so what it can refuse. */
 enum {
@@ -117,7 +126,8 @@ enum {
     TAKES_LOAD = 8,
     TAKES_PAIR = 16,
     TAKES_PICTURE = 32,
-    TAKES_TRAIL = 64
+    TAKES_TRAIL = 64,
+    TAKES_RECORD = 128
 };
 
 static const struct {
@@ -138,12 +148,19 @@ static const struct {
     [TILE_HAS_LOAD] = {TAKES_TILE, 1 << WRITTEN, 0},
     [PALETTE_NONREPLICATED] = {0, 1 << BANK, 1 << LANES},
     [CUT_KEY] = {TAKES_TILE | TAKES_LANE | TAKES_PAIR, 1 << BANK, 1 << KEY},
+    [REPLAY_RECORD] = {TAKES_RECORD, 1 << RECORD | 1 << SOURCE, 1 << BANK | 1 << WRITTEN},
 };
 
+/* What a record asks for, by its kind. */
+static const int asked_for[4] = {LOAD_BLOCK, LOAD_TILE, LOAD_TLUT, CUT_KEY};
+
 static struct {
-    int entry;
+    int entry, does; /* what it does: the entry's own work, or what its record asks for */
     tk_tile tile;
     uint32_t lane, image_siz, numbers[3]; /* dxt, words; or rows, words, stride; or count, rows, stride */
+    uint32_t kind, offset, length;        /* of a record */
+    uint64_t end;                         /* the companion's length */
+    uint8_t record[TK_RECORD_BYTES];
 } now;
 
 /* What was answered. Entries with fewer numbers leave the rest 0. */
@@ -158,6 +175,10 @@ static void print_call(void) {
         t->tmem_addr, t->width, t->height);
     fprintf(stderr, "  lane %u image_siz %u numbers %u %u %u\n", now.lane, now.image_siz, now.numbers[0], now.numbers[1],
             now.numbers[2]);
+    if (now.entry == REPLAY_RECORD) {
+        fprintf(stderr, "  kind %u offset %u length %u end %llu\n", now.kind, now.offset, now.length,
+                (unsigned long long)now.end);
+    }
     for (int i = 0; i < BUFFERS; i++) {
         if ((entries[now.entry].read | entries[now.entry].written) >> i & 1) {
             fprintf(stderr, "  %s: %zu bytes%s\n", buffer_names[i], buffers[i].length,
@@ -173,7 +194,7 @@ static void fail(const char *what) {
     _exit(1);
 }
 
-/* ---- Document 01's table, worked out here --------------------------------------------------------------------------- */
+/* ---- The tables of documents 01 and 02, worked out here ------------------------------------------------------------- */
 
 static uint64_t texels(void) {
     bool lookup = now.entry == SAMPLING_LOOKUP || now.entry == SAMPLING_LOOKUP_OBSERVED;
@@ -206,20 +227,28 @@ static bool tile_outside(void) {
 
 static bool load_outside(void) {
     const uint32_t *n = now.numbers;
-    if (now.image_siz > 3 || buffers[SOURCE].length > 65536) return true;
-    if (now.entry == LOAD_BLOCK) return n[0] > 4095 || n[1] > 2048;
-    if (now.entry == LOAD_TILE) return n[0] > 1024 || n[1] > 512 || n[2] > 65535;
+    size_t source_length = now.entry == REPLAY_RECORD ? now.length : buffers[SOURCE].length;
+    if (now.image_siz > 3 || source_length > 65536) return true;
+    if (now.does == LOAD_BLOCK) return n[0] > 4095 || n[1] > 2048;
+    if (now.does == LOAD_TILE) return n[0] > 1024 || n[1] > 512 || n[2] > 65535;
     return n[0] > 1024 || n[1] < 1 || n[1] > 1024 || n[2] > 65535;
 }
 
+static bool source_beyond(void) {
+    return (uint64_t)now.offset + now.length > now.end || now.length > buffers[SOURCE].length;
+}
+
 static uint32_t expected_refusal(void) {
-    unsigned takes = entries[now.entry].takes;
+    unsigned takes = entries[now.entry].takes | entries[now.does].takes;
     if (wrong_length()) return 1;
+    if ((takes & TAKES_RECORD) && buffers[RECORD].length < 48) return 8;
+    if ((takes & TAKES_RECORD) && now.kind > 3) return 10;
     if ((takes & TAKES_LOAD_FIELDS) && load_fields_outside()) return 2;
     if ((takes & TAKES_TILE) && tile_outside()) return 2;
     if ((takes & TAKES_TILE) && now.tile.mode > 3) return 3;
     if ((takes & TAKES_LANE) && now.lane > 3) return 3;
     if ((takes & TAKES_LOAD) && load_outside()) return 4;
+    if ((takes & TAKES_RECORD) && (takes & TAKES_LOAD) && source_beyond()) return 11;
     if ((takes & TAKES_PAIR) && reads_each() == 0) return 5;
     if ((takes & TAKES_PICTURE) && buffers[PICTURE].length < 4 * texels()) return 6;
     if ((takes & TAKES_TRAIL) && buffers[TRAIL].length / 2 < reads_each() * texels()) return 7;
@@ -251,7 +280,7 @@ static void choose_tile(void) {
 static void choose_load(void) {
     now.image_siz = up_to(3);
     bool many = one_in(64);
-    switch (now.entry) {
+    switch (now.does) {
         case LOAD_BLOCK:
             now.numbers[0] = up_to(4095);
             now.numbers[1] = up_to(many ? 2048 : 40);
@@ -293,6 +322,62 @@ static void break_all(void) {
     for (int i = 0; i < 3; i++) now.numbers[i] = any_number();
 }
 
+/* Moves a number into its field of the record, or out of it. Either way it is then what the field holds. */
+static void move(bool in, uint32_t *number, size_t place, size_t bytes) {
+    uint32_t held = 0;
+    for (size_t i = 0; i < bytes; i++) {
+        uint8_t *byte = &now.record[place + i];
+        if (in) *byte = (uint8_t)(*number >> 8 * (bytes - 1 - i));
+        held = held << 8 | *byte;
+    }
+    *number = held;
+}
+
+/* A companion's length: mostly enough for the record, else one byte too short, as long as the sum cut to 32 bits, or any. */
+static uint64_t some_end(void) {
+    uint64_t enough = (uint64_t)now.offset + now.length;
+    switch (up_to(15)) {
+        case 0: return enough - 1;
+        case 1: return (uint32_t)enough;
+        case 2: return random64();
+        default: return one_in(2) ? enough : enough + any_number();
+    }
+}
+
+/* A record of any bytes; then, mostly, with the chosen numbers in the fields that its kind takes. */
+static void choose_record(void) {
+    /* where the numbers of a block, a tile and a palette stand */
+    static const size_t number_places[3][3] = {{20, 22, 28}, {24, 22, 28}, {26, 24, 28}};
+    bool chosen = !one_in(8), load = now.does != CUT_KEY;
+    now.offset = one_in(4) ? UINT32_MAX - up_to(1000) : any_number();
+    now.length = one_in(16) ? any_number() : one_in(16) ? TK_SOURCE_MOST + up_to(1) : up_to(600);
+    uint32_t tile[12];
+    memcpy(tile, &now.tile, sizeof tile);
+    for (size_t i = 0; i < sizeof now.record; i++) now.record[i] = (uint8_t)random64();
+    move(chosen && !load, &now.lane, 1, 1);
+    for (size_t i = 0; i < 12; i++) {
+        bool taken = !load || i < 2 || i == 8 || i == 9; /* of a load fmt, siz, line and tmem_addr */
+        move(chosen && taken, &tile[i], i < 8 ? 2 + i : 2 * i - 6, i < 8 ? 1 : 2);
+    }
+    memcpy(&now.tile, tile, sizeof tile);
+    move(chosen && load, &now.image_siz, 18, 2);
+    for (size_t i = 0; load && i < 3; i++) move(chosen, &now.numbers[i], number_places[now.kind][i], 2);
+    move(chosen && load, &now.offset, 30, 4);
+    move(chosen && load, &now.length, 34, 4);
+    if (one_in(16)) now.kind = 4 + up_to(251);
+    move(true, &now.kind, 0, 1);
+    now.end = some_end();
+}
+
+/* Writes the record, or as much of it as is lent. */
+static void write_record(void) {
+    buffer *b = &buffers[RECORD];
+    size_t bytes = b->length < sizeof now.record ? b->length : sizeof now.record;
+    if (bytes == 0) return;
+    memcpy(b->lent, now.record, bytes);
+    memcpy(b->copy + (b->lent - b->memory), now.record, bytes);
+}
+
 /* Lends every buffer that the entry takes. Picture and trail get what the tile needs as far as there is room, or more. */
 static void choose_lengths(void) {
     unsigned lent = entries[now.entry].read | entries[now.entry].written;
@@ -302,6 +387,7 @@ static void choose_lengths(void) {
         if (!(lent >> i & 1)) continue;
         size_t right = right_length[i];
         if (i == SOURCE) right = one_in(16) ? right : up_to(600);
+        if (i == SOURCE && now.entry == REPLAY_RECORD) right = (size_t)now.length + (one_in(4) ? up_to(100) : 0);
         if (i == PICTURE) right = (size_t)(4 * count + (one_in(4) ? up_to(100) : 0));
         if (i == TRAIL) right = (size_t)(2 * each * count + (one_in(4) ? up_to(100) : 0));
         lend(&buffers[i], some_length(i, right));
@@ -312,6 +398,8 @@ static void choose_call(void) {
     now.entry = (int)up_to(ENTRIES - 1);
     bool lookup = now.entry == SAMPLING_LOOKUP || now.entry == SAMPLING_LOOKUP_OBSERVED;
     if (lookup && !one_in(8)) now.entry -= SAMPLING_LOOKUP - SAMPLE_TILE; /* lookups take long */
+    now.kind = up_to(3);
+    now.does = now.entry == REPLAY_RECORD ? asked_for[now.kind] : now.entry;
     memset(now.numbers, 0, sizeof now.numbers);
     choose_tile();
     choose_load();
@@ -321,7 +409,9 @@ static void choose_call(void) {
     } else {
         while (one_in(3)) break_one();
     }
+    if (now.entry == REPLAY_RECORD) choose_record();
     choose_lengths();
+    if (now.entry == REPLAY_RECORD) write_record();
 }
 
 #define LENT(i) buffers[i].lent, buffers[i].length
@@ -374,14 +464,16 @@ static void make_call(void) {
             break;
         }
         case PALETTE_NONREPLICATED: answer.refusal = tk_palette_nonreplicated(LENT(BANK), LENT(LANES)); break;
-        default: set_answer(tk_key(LENT(BANK), TK_TILE_ARGUMENTS(t), now.lane, LENT(KEY)));
+        case CUT_KEY: set_answer(tk_key(LENT(BANK), TK_TILE_ARGUMENTS(t), now.lane, LENT(KEY))); break;
+        default: set_answer(tk_replay_record(LENT(BANK), LENT(WRITTEN), LENT(RECORD), now.end, LENT(SOURCE)));
     }
 }
 
 /* ---- Checking it ---------------------------------------------------------------------------------------------------- */
 
-/* The bytes of a picture or trail that a successful call writes; of the other buffers all. */
+/* The bytes of a picture or trail that a successful call writes; none by a record that asks for a key; else all. */
 static size_t bytes_written(int i) {
+    if (now.entry == REPLAY_RECORD && now.does == CUT_KEY) return 0;
     if (i == PICTURE) return (size_t)(4 * texels());
     if (i == TRAIL) return (size_t)(2 * reads_each() * texels());
     return buffers[i].length;
@@ -398,13 +490,13 @@ static void check_buffer(int i, size_t changed, bool whole) {
 }
 
 static void check_count(void) {
-    uint64_t count = now.entry == LOAD_BLOCK ? 8 * (uint64_t)now.numbers[1] : 8 * (uint64_t)now.numbers[0] * now.numbers[1];
-    if (now.entry == LOAD_TLUT && now.numbers[1] == 1 && now.image_siz > 0) {
+    uint64_t count = now.does == LOAD_BLOCK ? 8 * (uint64_t)now.numbers[1] : 8 * (uint64_t)now.numbers[0] * now.numbers[1];
+    if (now.does == LOAD_TLUT && now.numbers[1] == 1 && now.image_siz > 0) {
         uint32_t entries_a_step = now.image_siz == 2 ? 1 : 16u >> now.image_siz;
         count = 8 * (uint64_t)((now.numbers[0] + entries_a_step - 1) / entries_a_step);
     }
-    if (entries[now.entry].takes & TAKES_PICTURE) count = reads_each() * texels();
-    bool counts = entries[now.entry].takes & (TAKES_LOAD | TAKES_PICTURE);
+    if (entries[now.does].takes & TAKES_PICTURE) count = reads_each() * texels();
+    bool counts = entries[now.does].takes & (TAKES_LOAD | TAKES_PICTURE);
     if (counts && answer.numbers[0] != count) fail("the count");
 }
 
@@ -420,6 +512,20 @@ static void check_call(bool whole) {
         bool written = entries[now.entry].written >> i & 1, lent = written || (entries[now.entry].read >> i & 1);
         if (lent) check_buffer(i, refusal == 0 && written ? bytes_written(i) : 0, whole);
     }
+}
+
+/* How often each number was answered, by entry. */
+enum { NUMBERS = 12 };
+static uint64_t answered[ENTRIES][NUMBERS];
+
+/* Prints that for the entries from one up to another, added up. */
+static void print_answered(int from, int to) {
+    for (int number = 0; number < NUMBERS; number++) {
+        uint64_t times = 0;
+        for (int entry = from; entry < to; entry++) times += answered[entry][number];
+        printf(" %d: %llu", number, (unsigned long long)times);
+    }
+    printf("\n");
 }
 
 #ifdef __SANITIZE_ADDRESS__
@@ -438,17 +544,18 @@ int main(int argc, char **argv) {
     __sanitizer_set_death_callback(print_call);
 #endif
 
-    uint64_t done = 0, refused[16] = {0};
+    uint64_t done = 0;
     time_t began = time(NULL);
     while (done < calls && (argc == 4 || done % 256 != 0 || (uint64_t)(time(NULL) - began) < seconds)) {
         choose_call();
         make_call();
         check_call(done % 65536 == 0);
-        refused[answer.refusal % 16]++;
+        answered[now.entry][answer.refusal % NUMBERS]++;
         done++;
     }
     printf("rough handling: %llu calls, seed %s, refused by number:", (unsigned long long)done, argv[2]);
-    for (int i = 0; i < 10; i++) printf(" %d: %llu", i, (unsigned long long)refused[i]);
-    printf("\n");
+    print_answered(0, ENTRIES);
+    printf("rough handling: of these %s:", entry_names[REPLAY_RECORD]);
+    print_answered(REPLAY_RECORD, ENTRIES);
     return 0;
 }

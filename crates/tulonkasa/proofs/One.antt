@@ -14,6 +14,7 @@ use Rattle.tulonkasa.proofs.pictures.tk_sample_tile.Reads as tk-sample-
 use Rattle.tulonkasa.proofs.pictures.tk_sample_tile_observed.Reads as tk-sample-tile-observed
 use Rattle.tulonkasa.proofs.pictures.tk_sampling_lookup.Reads as tk-sampling-lookup
 use Rattle.tulonkasa.proofs.pictures.tk_sampling_lookup_observed.Reads as tk-sampling-lookup-observed
+use Rattle.tulonkasa.proofs.replay.tk_replay_record.Reads as tk-replay-record
 use Rattle.tulonkasa.proofs.sampling.tk_sampling.Reads as tk-sampling
 
 pub tk-key-one : (w : _) (a : _) (r s : _) (e f : _) → tk-key.Post w a r e → tk-key.Post w a s f
@@ -68,3 +69,7 @@ tk-sampling-lookup-observed-one w a r s e f p q = answered-determined _ r s _ _ 
 
 pub tk-sampling-one : (w : _) (a : _) (r s : _) (e f : _) → tk-sampling.Post w a r e → tk-sampling.Post w a s f → r ≡ s
 tk-sampling-one w a r s e f p q = sampling-determined _ r s p q
+
+pub tk-replay-record-one : (w : _) (a : _) (r s : _) (e f : _) → tk-replay-record.Post w a r e → tk-replay-record.Post w a s f
+    → (r ≡ s) × (now (e .0) ∷ now (e .1 .0) ∷ [] ≡ now (f .0) ∷ now (f .1 .0) ∷ [])
+tk-replay-record-one w a r s e f p q = answered-determined _ r s _ _ p q

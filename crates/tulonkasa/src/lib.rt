@@ -4,5 +4,6 @@ pub mod keys;
 pub mod loads;
 pub mod maps;
 pub mod pictures;
+pub mod replay;
 pub mod sampling;
 mod tile;

@@ -218,6 +218,38 @@ impl Bank {
         let kept = slices::key(&self.bytes, tile, lane, &mut bytes)?;
         Ok(Key { bytes, kept })
     }
+
+    /// Does a record of a capture: a load, or the question for a key, which changes nothing. Answers the count of stores, or of
+    /// the bytes that the key would keep. `include/tulonkasa.h` says what a record's 48 bytes are.
+    ///
+    /// `end` is the length of the capture's companion file, and `part` the file's bytes from the record's offset on: at least as
+    /// many as the record states. A key needs none.
+    ///
+    /// ```
+    /// use tulonkasa::{Bank, Refusal};
+    ///
+    /// let companion = [0xf8, 0x01, 0x07, 0xc1, 0x00, 0x3f, 0xff, 0xff];
+    /// let mut block = [0; 48];
+    /// block[3] = 2; // siz
+    /// block[19] = 2; // image size
+    /// block[23] = 1; // words
+    /// block[37] = 8; // the source's length; its offset is 0
+    /// let mut key = [0; 48];
+    /// key[0] = 3; // kind
+    /// key[3] = 2; // siz
+    /// key[15] = 4; // width
+    /// key[17] = 1; // height
+    ///
+    /// let mut bank = Bank::new();
+    /// assert_eq!(bank.replay_record(&block, 8, &companion)?, 8);
+    /// assert_eq!(bank.bytes()[..8], companion);
+    /// assert_eq!(bank.replay_record(&key, 8, &[])?, 8);
+    /// assert_eq!(bank.replay_record(&block, 7, &companion[..7]), Err(Refusal::Beyond));
+    /// # Ok::<(), tulonkasa::Refusal>(())
+    /// ```
+    pub fn replay_record(&mut self, record: &[u8], end: u64, part: &[u8]) -> Result<u32, Refusal> {
+        slices::replay_record(&mut self.bytes, &mut self.written.0, record, end, part)
+    }
 }
 
 impl Observed {

@@ -99,6 +99,18 @@ extern "C" {
     ) -> Answer;
 
     pub fn tk_palette_nonreplicated(bank: *const u8, bank_length: usize, map: *mut u8, map_length: usize) -> u32;
+
+    pub fn tk_replay_record(
+        bank: *mut u8,
+        bank_length: usize,
+        written: *mut u8,
+        written_length: usize,
+        record: *const u8,
+        record_length: usize,
+        end: u64,
+        part: *const u8,
+        part_length: usize,
+    ) -> Answer;
 }
 
 entries! {

@@ -1,4 +1,4 @@
-//! Texture memory of a cartridge game console: loads, pictures, and a key for each picture.
+//! Texture memory of a cartridge game console: loads, pictures, a key for each picture, and the replay of captured loads.
 //!
 //! The work is done by a static library whose every function is proved to meet its contract on every input. This crate
 //! gives it Rust's types: a [`Bank`] of memory, a [`Tile`] that says how to read it, and a [`Refusal`] where a number is out

@@ -19,8 +19,14 @@ pub enum Refusal {
     Picture,
     /// 7: the trail's buffer is shorter than 2 bytes a read.
     Trail,
+    /// 8: a capture's record has fewer than 48 bytes.
+    Torn,
     /// 9: the texel step does not know the pair.
     Unknown,
+    /// 10: the kind of a capture's record is above 3.
+    Kind,
+    /// 11: the source of a capture's record goes beyond the companion file, or beyond the part of it that was lent.
+    Beyond,
     /// A number that this crate has no name for.
     Other(u32),
 }
@@ -37,7 +43,10 @@ impl Refusal {
             5 => Self::Pair,
             6 => Self::Picture,
             7 => Self::Trail,
+            8 => Self::Torn,
             9 => Self::Unknown,
+            10 => Self::Kind,
+            11 => Self::Beyond,
             other => Self::Other(other),
         })
     }
@@ -52,7 +61,10 @@ impl Refusal {
             Self::Pair => 5,
             Self::Picture => 6,
             Self::Trail => 7,
+            Self::Torn => 8,
             Self::Unknown => 9,
+            Self::Kind => 10,
+            Self::Beyond => 11,
             Self::Other(number) => number,
         }
     }
@@ -76,7 +88,10 @@ impl fmt::Display for Refusal {
             Self::Pair => "the mode does not accept this pair of format and size",
             Self::Picture => "the picture's buffer is too short",
             Self::Trail => "the trail's buffer is too short",
+            Self::Torn => "a record has fewer than 48 bytes",
             Self::Unknown => "the texel step does not know this pair of format and size",
+            Self::Kind => "the kind of the record is above 3",
+            Self::Beyond => "the record's source goes beyond the companion file",
             Self::Other(_) => "a refusal without a name",
         };
         write!(f, "refusal {}: {words}", self.number())

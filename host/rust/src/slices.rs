@@ -137,6 +137,25 @@ pub fn key(bank: &[u8], tile: &Tile, lane: u32, key: &mut [u8]) -> Result<u32, R
     counted(call!(tk_key([bank], tile, lane, [mut key])))
 }
 
+/// Does a record of a capture, and answers the count of its stores, or of the bytes that its key would keep.
+pub fn replay_record(bank: &mut [u8], written: &mut [u8], record: &[u8], end: u64, part: &[u8]) -> Result<u32, Refusal> {
+    // SAFETY: each pointer comes with its slice's length, and Rust's borrows do not overlap.
+    let answer = unsafe {
+        ffi::tk_replay_record(
+            bank.as_mut_ptr(),
+            bank.len(),
+            written.as_mut_ptr(),
+            written.len(),
+            record.as_ptr(),
+            record.len(),
+            end,
+            part.as_ptr(),
+            part.len(),
+        )
+    };
+    counted(answer)
+}
+
 fn counted(answer: ffi::Answer) -> Result<u32, Refusal> {
     Refusal::check(answer.refusal, answer.count)
 }

@@ -102,6 +102,127 @@ fn the_surplus_of_a_picture_stays() {
     assert_eq!(picture, [9, 9, 9, 9, 5, 5]);
 }
 
+/// The numbers of a record, big end first.
+fn put<const N: usize>(record: &mut [u8; 48], place: usize, number: [u8; N]) {
+    record[place..place + N].copy_from_slice(&number);
+}
+
+/// A record that loads a block of one word at the bank's start, with the offset and the length of its source.
+fn block_record(offset: u32, length: u32) -> [u8; 48] {
+    let mut record = [0; 48];
+    record[3] = 2; // siz
+    put(&mut record, 18, 2u16.to_be_bytes()); // image size
+    put(&mut record, 22, 1u16.to_be_bytes()); // words
+    put(&mut record, 30, offset.to_be_bytes());
+    put(&mut record, 34, length.to_be_bytes());
+    record
+}
+
+/// A record that asks for a key: an index of eight bits at the bank's start, in mode 2.
+fn key_record(width: u16) -> [u8; 48] {
+    let mut record = [0xff; 48]; // a key takes nothing from 18 on
+    record[..10].copy_from_slice(&[3, 0, 2, 1, 0, 2, 0, 0, 0, 0]);
+    record[10..18].fill(0);
+    put(&mut record, 14, width.to_be_bytes());
+    put(&mut record, 16, 1u16.to_be_bytes()); // height
+    record
+}
+
+#[test]
+fn a_replay_carries_the_bank_from_record_to_record() {
+    let mut bank = Bank::new();
+    let companion = [9, 9, 3, 4, 3, 5, 3, 4, 5, 5, 9, 9];
+    assert_eq!(bank.replay_record(&key_record(8), 12, &[]), Ok(8 + 2)); // eight indices, all of entry 0
+    assert_eq!(bank, Bank::new());
+    assert_eq!(bank.replay_record(&block_record(2, 8), 12, &companion[2..]), Ok(8));
+    assert_eq!(bank.bytes()[..9], [3, 4, 3, 5, 3, 4, 5, 5, 0]);
+    assert_eq!(bank.written().iter().collect::<Vec<_>>(), (0..8).collect::<Vec<_>>());
+    let loaded = bank.clone();
+    assert_eq!(bank.replay_record(&key_record(8), 12, &[]), Ok(8 + 6)); // of entries 3, 4 and 5
+    assert_eq!(bank, loaded);
+    assert_eq!(bank.replay_record(&block_record(2, 3), 12, &companion[2..]), Ok(8)); // no more than its stated part
+    assert_eq!(bank.bytes()[..9], [3, 4, 3, 0, 0, 0, 0, 0, 0]);
+}
+
+#[test]
+fn a_replay_does_each_load_as_its_own_call_does() {
+    let source = rising(40);
+    let tile = Tile { siz: 2, line: 1, tmem_addr: 3, ..Tile::default() };
+    let mut record = [0xff; 48];
+    record[2..4].copy_from_slice(&[0, 2]); // fmt, siz
+    put(&mut record, 10, 1u16.to_be_bytes()); // line
+    put(&mut record, 12, 3u16.to_be_bytes()); // word address
+    put(&mut record, 18, 2u16.to_be_bytes()); // image size
+    put(&mut record, 30, 7u32.to_be_bytes()); // offset
+    put(&mut record, 34, 40u32.to_be_bytes()); // length
+    let check = |kind, numbers: &[(usize, u16)], load: &dyn Fn(&mut Bank) -> Result<u32, Refusal>| {
+        let mut record = record;
+        record[0] = kind;
+        numbers.iter().for_each(|&(place, number)| put(&mut record, place, number.to_be_bytes()));
+        let (mut replayed, mut loaded) = (Bank::new(), Bank::new());
+        assert_eq!(replayed.replay_record(&record, 47, &source), load(&mut loaded));
+        assert_eq!(replayed, loaded);
+        assert_ne!(replayed, Bank::new());
+    };
+    check(0, &[(20, 1024), (22, 4)], &|bank| bank.load_block(&source, &tile, 2, 1024, 4));
+    check(1, &[(22, 2), (24, 3), (28, 9)], &|bank| bank.load_tile(&source, &tile, 2, 3, 2, 9));
+    check(2, &[(24, 2), (26, 5), (28, 12)], &|bank| bank.load_tlut(&source, &tile, 2, 5, 2, 12));
+}
+
+#[test]
+fn a_refused_record_changes_nothing() {
+    let mut bank = Bank::from([7; 4096]);
+    bank.replay_record(&block_record(0, 8), 8, &rising(8)).unwrap();
+    let before = bank.clone();
+    let mut refused = |record: &[u8], end, part: &[u8]| {
+        let answer = bank.replay_record(record, end, part);
+        assert_eq!(bank, before);
+        answer.unwrap_err().number()
+    };
+    let source = vec![1; 65537];
+    let block = block_record(0, 8);
+    let with = |mut record: [u8; 48], changes: &[(usize, u8)]| {
+        changes.iter().for_each(|&(place, byte)| record[place] = byte);
+        record
+    };
+    let key = key_record(8);
+    assert_eq!(refused(&block[..47], 8, &source), 8);
+    assert_eq!(refused(&[], 8, &source), 8);
+    assert_eq!(refused(&[4; 47], 8, &source), 8); // before 10
+    assert_eq!(refused(&with(block, &[(0, 4), (2, 8)]), 8, &source), 10); // before 2
+    assert_eq!(refused(&with(block, &[(2, 8), (18, 1)]), 8, &source), 2); // before 4
+    assert_eq!(refused(&with(block, &[(18, 1)]), 7, &source), 4); // before 11
+    assert_eq!(refused(&block_record(0, 70000), 8, &source), 4); // before 11, too
+    assert_eq!(refused(&block, 7, &source), 11);
+    assert_eq!(refused(&with(key, &[(4, 16), (1, 4)]), 8, &[]), 2); // before 3
+    assert_eq!(refused(&with(key, &[(1, 4)]), 8, &[]), 3);
+    assert_eq!(refused(&with(key, &[(5, 4)]), 8, &[]), 3);
+    assert_eq!(refused(&with(key, &[(1, 4), (2, 1), (5, 0)]), 8, &[]), 3); // before 5
+    assert_eq!(refused(&with(key, &[(2, 1), (5, 0)]), 8, &[]), 5);
+}
+
+#[test]
+fn the_source_of_a_record_ends_in_the_companion() {
+    let source = vec![1; 65537];
+    let replay = |offset, length, end, part: usize| {
+        Bank::new().replay_record(&block_record(offset, length), end, &source[..part]).map_err(Refusal::number)
+    };
+    assert_eq!(replay(5, 8, 13, 8), Ok(8));
+    assert_eq!(replay(5, 8, 12, 8), Err(11));
+    assert_eq!(replay(5, 8, 13, 9), Ok(8));
+    assert_eq!(replay(5, 8, 13, 7), Err(11));
+    assert_eq!(replay(13, 0, 13, 0), Ok(8)); // nothing, at the end
+    assert_eq!(replay(14, 0, 13, 0), Err(11)); // and past it
+    assert_eq!(replay(0, 65536, 65536, 65536), Ok(8));
+    assert_eq!(replay(0, 65537, 65537, 65537), Err(4));
+    // Offset and length are added in more than 32 bits.
+    assert_eq!(replay(u32::MAX, 65536, (1 << 32) + 65535, 65536), Ok(8));
+    assert_eq!(replay(u32::MAX, 65536, (1 << 32) + 65534, 65536), Err(11));
+    assert_eq!(replay(u32::MAX, 8, 7, 8), Err(11));
+    assert_eq!(replay(u32::MAX, 65536, u64::MAX, 65536), Ok(8));
+    assert_eq!(replay(u32::MAX, u32::MAX, u64::MAX, 65537), Err(4));
+}
+
 #[test]
 fn refusals_have_their_numbers() {
     for number in 1..=20 {

@@ -1,12 +1,15 @@
 //! One case, done by the original and by the archive: answers, buffers, and bytes that must not have changed.
 use crate::case::{descriptor, Call, Case, Fill};
+use crate::input::Input;
+use crate::program::Program;
 use crate::random::Random;
+use crate::replay;
 use original::calls::{self, Bytes, Load, Map, Memory, Picture, Reach};
 use std::ops::AddAssign;
 use tulonkasa::{slices, Refusal, Sampling, Tile, LOOKUP_TEXELS};
 
 /// What a buffer that is lent to be written holds before.
-const BEFORE: u8 = 0xa5;
+pub const BEFORE: u8 = 0xa5;
 
 /// So many bytes behind a lent picture or trail are looked at too.
 const FENCE: usize = 64;
@@ -43,10 +46,11 @@ pub struct Workspace {
     expected_trail: Vec<u8>,
     reach: Reach,
     loads: u64,
+    program: Option<Program>,
 }
 
-impl Default for Workspace {
-    fn default() -> Self {
+impl Workspace {
+    pub fn new(program: Option<Program>) -> Self {
         Self {
             bank: Box::new([0; 4096]),
             source: vec![0; 65536],
@@ -55,13 +59,19 @@ impl Default for Workspace {
             expected_trail: Vec::new(),
             reach: Reach::default(),
             loads: 0,
+            program,
         }
     }
-}
 
-impl Workspace {
     /// Compares; an error says where the two differ.
-    pub fn check(&mut self, case: &Case) -> Result<Amount, String> {
+    pub fn check(&mut self, input: &Input) -> Result<Amount, String> {
+        match input {
+            Input::Case(case) => self.case(case),
+            Input::Run(run) => replay::check(run, self.program.as_ref()),
+        }
+    }
+
+    fn case(&mut self, case: &Case) -> Result<Amount, String> {
         fill(&mut self.bank[..], case.fill, case.seed);
         let bank = self.bank.clone();
         let amount = match case.call {
@@ -251,7 +261,7 @@ fn lent(needed: usize, surplus: i32, short: i32) -> usize {
     }
 }
 
-fn fill(bytes: &mut [u8], fill: Fill, seed: u64) {
+pub fn fill(bytes: &mut [u8], fill: Fill, seed: u64) {
     let mut random = Random::new(seed);
     match fill {
         Fill::Zero => bytes.fill(0),
@@ -272,7 +282,7 @@ fn fill(bytes: &mut [u8], fill: Fill, seed: u64) {
     }
 }
 
-fn same_answer<T: PartialEq + std::fmt::Debug>(
+pub fn same_answer<T: PartialEq + std::fmt::Debug>(
     original: Result<T, Refusal>,
     archive: Result<T, Refusal>,
 ) -> Result<(), String> {
@@ -282,7 +292,7 @@ fn same_answer<T: PartialEq + std::fmt::Debug>(
     Err(format!("the original asks for {original:?}, the archive answers {archive:?}"))
 }
 
-fn same(what: &str, original: &[u8], archive: &[u8]) -> Result<(), String> {
+pub fn same(what: &str, original: &[u8], archive: &[u8]) -> Result<(), String> {
     if original == archive {
         return Ok(());
     }

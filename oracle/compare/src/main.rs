@@ -1,18 +1,26 @@
 //! Compares the archive with the original: first every case of the sweep, then random ones until the time is up.
 //!
-//!     compare SECONDS SEED
+//!     compare SECONDS SEED [WORDS..]
 //!
+//! The words are those that start the replay program, which then gets a companion's name and records on standard input.
 //! Prints what was compared, with counts. At a difference it prints the smallest failing input that it can find, and its
 //! exit status is 1.
+mod capture;
 mod case;
 mod check;
+mod input;
+mod program;
 mod random;
+mod replay;
 mod shrink;
 mod sweep;
 
-use case::{Call, Case};
+use capture::By;
+use case::Call;
 use check::{Amount, Workspace};
-use random::{Random, CALLS};
+use input::Input;
+use program::Program;
+use random::Random;
 use std::process::ExitCode;
 use std::sync::atomic::{AtomicBool, Ordering};
 use std::time::{Duration, Instant};
@@ -20,11 +28,11 @@ use std::time::{Duration, Instant};
 /// What one worker compared, by its place in [`KINDS`], and the first difference that it met.
 struct Work {
     amounts: [Amount; KINDS.len()],
-    difference: Option<(Case, String)>,
+    difference: Option<(Input, String)>,
 }
 
 /// The kinds of comparison, as they are printed.
-const KINDS: [&str; 12] = [
+const KINDS: [&str; 14] = [
     "block loads",
     "tile loads",
     "TLUT loads",
@@ -37,11 +45,17 @@ const KINDS: [&str; 12] = [
     "has-load after a load",
     "lane checks",
     "keys",
+    "replayed records",
+    "replayed by program",
 ];
 
-fn kind(call: Call) -> usize {
+fn kind(input: &Input) -> usize {
     use original::calls::Picture::{Lookup, Plain};
-    match call {
+    let case = match input {
+        Input::Case(case) => case,
+        Input::Run(run) => return 12 + usize::from(run.by == By::Program),
+    };
+    match case.call {
         Call::LoadBlock => 0,
         Call::LoadTile => 1,
         Call::LoadTlut => 2,
@@ -56,16 +70,17 @@ fn kind(call: Call) -> usize {
 }
 
 fn main() -> ExitCode {
-    let mut arguments = std::env::args().skip(1).map(|argument| argument.parse());
-    let (Some(Ok(seconds)), Some(Ok(seed)), None) = (arguments.next(), arguments.next(), arguments.next()) else {
-        eprintln!("usage: compare SECONDS SEED");
+    let arguments: Vec<String> = std::env::args().skip(1).collect();
+    let numbers: Vec<u64> = arguments.iter().take(2).flat_map(|argument| argument.parse()).collect();
+    let [seconds, seed] = numbers[..] else {
+        eprintln!("usage: compare SECONDS SEED [WORDS..]");
         return ExitCode::from(2);
     };
     let began = Instant::now();
-    let works = run(began + Duration::from_secs(seconds), seed);
+    let works = run(began + Duration::from_secs(seconds), seed, &arguments[2..]);
     let differences = works.iter().filter_map(|work| work.difference.as_ref());
-    if let Some((case, why)) = differences.min_by_key(|(case, _)| case.size()) {
-        println!("DIFFERENCE: {why}\n{case}");
+    if let Some((input, why)) = differences.min_by_key(|(input, _)| input.size()) {
+        println!("DIFFERENCE: {why}\n{input}");
         return ExitCode::FAILURE;
     }
     print(&works, seed, began.elapsed());
@@ -73,38 +88,42 @@ fn main() -> ExitCode {
 }
 
 /// All workers, until the deadline or a difference. The sweep is finished even if the time is up.
-fn run(deadline: Instant, seed: u64) -> Vec<Work> {
+fn run(deadline: Instant, seed: u64, program: &[String]) -> Vec<Work> {
     let workers = std::thread::available_parallelism().map_or(1, |count| count.get());
-    let sweep = sweep::cases();
+    let with_program = !program.is_empty();
+    let mut runs = sweep::runs(By::Call);
+    if with_program {
+        runs.extend(sweep::runs(By::Program));
+    }
+    let sweep: Vec<_> = sweep::cases().into_iter().map(Input::Case).chain(runs.into_iter().map(Input::Run)).collect();
     let stop = AtomicBool::new(false);
     std::thread::scope(|scope| {
         let threads: Vec<_> = (0..workers)
             .map(|worker| {
-                let cases = sweep.iter().copied().skip(worker).step_by(workers);
+                let inputs = sweep.iter().skip(worker).step_by(workers).cloned();
                 let mut random = Random::new(Random::new(seed).next() ^ worker as u64);
-                let more = std::iter::from_fn(move || {
-                    (Instant::now() < deadline).then(|| random.pick(&CALLS)).map(|call| random.case(call))
-                });
+                let more = std::iter::from_fn(move || (Instant::now() < deadline).then(|| random.input(with_program)));
+                let program = with_program.then(|| Program::new(program, worker));
                 let stop = &stop;
-                scope.spawn(move || work(cases.chain(more), stop))
+                scope.spawn(move || work(program, inputs.chain(more), stop))
             })
             .collect();
         threads.into_iter().map(|thread| thread.join().expect("a worker ends by itself")).collect()
     })
 }
 
-fn work(cases: impl Iterator<Item = Case>, stop: &AtomicBool) -> Work {
-    let mut workspace = Workspace::default();
+fn work(program: Option<Program>, inputs: impl Iterator<Item = Input>, stop: &AtomicBool) -> Work {
+    let mut workspace = Workspace::new(program);
     let mut work = Work { amounts: Default::default(), difference: None };
-    for case in cases {
+    for input in inputs {
         if stop.load(Ordering::Relaxed) {
             break;
         }
-        match workspace.check(&case) {
-            Ok(amount) => work.amounts[kind(case.call)] += amount,
+        match workspace.check(&input) {
+            Ok(amount) => work.amounts[kind(&input)] += amount,
             Err(why) => {
                 stop.store(true, Ordering::Relaxed);
-                work.difference = Some(shrink::smallest(&mut workspace, case, why));
+                work.difference = Some(shrink::smallest(&mut workspace, input, why));
                 break;
             }
         }

@@ -1,5 +1,8 @@
-//! Random numbers by a seed, and random cases: near the limits as often as not.
+//! Random numbers by a seed, and random cases and runs: near the limits as often as not.
+use crate::capture::place::*;
+use crate::capture::{By, Companion, Record, Run, BLOCK, END_BYTES, KEY, RECORD_BYTES, TILE, TLUT};
 use crate::case::{Call, Case, Fill};
+use crate::input::Input;
 use original::calls::Picture;
 use tulonkasa::Tile;
 
@@ -65,15 +68,27 @@ impl Random {
         }
     }
 
+    /// A case or a run; by the program only if there is one.
+    pub fn input(&mut self, program: bool) -> Input {
+        match self.to(4095) {
+            0 if program => Input::Run(self.run(By::Program)),
+            0..=31 => Input::Run(self.run(By::Call)),
+            _ => {
+                let call = self.pick(&CALLS);
+                Input::Case(self.case(call))
+            }
+        }
+    }
+
     /// A case of a call.
-    pub fn case(&mut self, call: Call) -> Case {
+    fn case(&mut self, call: Call) -> Case {
         let texels = if self.to(255) == 0 { 1 << 20 } else { 1 << 14 };
         let mut case = Case::new(call, self.tile(texels));
         case.lane = self.to(3);
         case.image_siz = self.to(3);
         case.source_length = self.near(65536);
         case.surplus = self.pick(&[0, 0, 0, 1, 2, 7, 64, -1, -2]);
-        case.fill = self.pick(&[Fill::Random, Fill::Random, Fill::Random, Fill::Palette, Fill::Rising, Fill::Zero]);
+        case.fill = self.filling();
         case.seed = self.next();
         let few = self.to(127) != 0;
         case.numbers = match call {
@@ -90,10 +105,79 @@ impl Random {
         }
         case
     }
+
+    fn filling(&mut self) -> Fill {
+        self.pick(&[Fill::Random, Fill::Random, Fill::Random, Fill::Palette, Fill::Rising, Fill::Zero])
+    }
+
+    /// A run of some tens of records. Now and then the program gets more than it reads at a time.
+    fn run(&mut self, by: By) -> Run {
+        let length = match self.to(7) {
+            0 => self.pick(&[0, 1, 1 << 32, (1 << 32) + 65535, 5 << 30]),
+            1 => (1 << 32) - END_BYTES + self.next() % (2 * END_BYTES),
+            _ => u64::from(self.near(3 * END_BYTES as u32)),
+        };
+        let companion = Companion { length, fill: self.filling(), seed: self.next() };
+        let count = if by == By::Program && self.to(15) == 0 { 1300 + self.to(100) } else { self.near(60) };
+        let records = (0..count).map(|_| self.record(by, length)).collect();
+        let torn = if self.to(1) == 0 { 0 } else { self.near(RECORD_BYTES as u32 - 1) as usize };
+        let tail = self.record(by, length).bytes[..torn].to_vec();
+        Run { by, records, tail, companion }
+    }
+
+    /// A record: any bytes, then numbers in range in the fields that its kind takes, then a byte or more changed in some.
+    fn record(&mut self, by: By, companion_length: u64) -> Record {
+        let mut record = Record { bytes: [0; RECORD_BYTES], surplus: 0 };
+        self.fill(&mut record.bytes);
+        let kind = self.pick(&[BLOCK, TILE, TLUT, KEY]);
+        let tile = self.tile(1 << 10);
+        record.set(&[(KIND, kind), (FMT, tile.fmt), (SIZ, tile.siz), (LINE, tile.line), (TMEM_ADDR, tile.tmem_addr)]);
+        if kind == KEY {
+            record.set(&[(LANE, self.to(3)), (PALETTE, tile.palette), (MODE, tile.mode)]);
+            record.set(&[(CMS, tile.cms), (CMT, tile.cmt), (MASKS, tile.masks), (MASKT, tile.maskt)]);
+            record.set(&[(WIDTH, tile.width), (HEIGHT, tile.height)]);
+        } else {
+            let (offset, length) = self.source(companion_length);
+            record.set(&[(IMAGE_SIZ, self.to(3)), (STRIDE, self.near(65535)), (OFFSET, offset), (LENGTH, length)]);
+            record.set(&match kind {
+                BLOCK => [(DXT, self.near(4095)), (WORDS, self.near(512))],
+                TILE => [(ROWS, self.near(32)), (WORDS, self.near(32))],
+                _ => [(COUNT, self.near(256)), (ROWS, 1 + self.near(3))],
+            });
+            if by == By::Call {
+                record.surplus = self.pick(&[0, 0, 0, 1, 7, 64, -1]);
+            }
+        }
+        while self.to(7) == 0 {
+            let changed = self.to(RECORD_BYTES as u32 - 1) as usize;
+            record.bytes[changed] = self.pick(&[0, 1, 2, 4, 8, 16, 255]);
+        }
+        record
+    }
+
+    /// Offset and length of a source: mostly inside the companion, near its start or its end, else beyond it or too long.
+    fn source(&mut self, companion_length: u64) -> (u32, u32) {
+        let length = match self.to(15) {
+            0 => 65536 + self.to(1),
+            1 => self.next() as u32,
+            _ => self.near(companion_length.min(65536) as u32),
+        };
+        let last = companion_length.saturating_sub(length.into());
+        let offset = match self.to(15) {
+            0 => companion_length,
+            1 => companion_length + 1,
+            2 => last + 1,
+            3..=5 => last,
+            6..=8 => last - self.next() % (last.min(END_BYTES) + 1),
+            9 => self.next() & u64::from(u32::MAX),
+            _ => self.next() % (last.min(END_BYTES) + 1),
+        };
+        (u32::try_from(offset).unwrap_or(u32::MAX), length)
+    }
 }
 
 /// The calls, each as often as it is to be tried.
-pub const CALLS: [Call; 15] = [
+const CALLS: [Call; 15] = [
     Call::LoadBlock,
     Call::LoadTile,
     Call::LoadTlut,

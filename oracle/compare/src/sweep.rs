@@ -1,4 +1,7 @@
-//! Cases by structure: every pair, mode and lane with the limits of the sizes, and the limits of every load.
+//! Cases by structure: every pair, mode and lane with the limits of the sizes, and the limits of every load. Runs of records: the
+//! limits of every number, several faults at a time, and sources at the companion's end.
+use crate::capture::place::*;
+use crate::capture::{By, Companion, Record, Run, BLOCK, KEY, RECORD_BYTES, TILE, TLUT};
 use crate::case::{Call, Case, Fill};
 use original::calls::Picture;
 use tulonkasa::Tile;
@@ -148,4 +151,97 @@ fn banks(cases: &mut Vec<Case>) {
             cases.push(Case { fill, seed, ..Case::new(Call::PaletteNonreplicated, Tile::default()) });
         }
     }
+}
+
+/// The most that some kind takes of each of a record's numbers.
+const MOST: [(usize, u32); 20] = [
+    (LANE, 3),
+    (FMT, 7),
+    (SIZ, 3),
+    (PALETTE, 15),
+    (MODE, 3),
+    (CMS, 3),
+    (CMT, 3),
+    (MASKS, 15),
+    (MASKT, 15),
+    (LINE, 511),
+    (TMEM_ADDR, 511),
+    (WIDTH, 1024),
+    (HEIGHT, 1024),
+    (IMAGE_SIZ, 3),
+    (DXT, 4095),
+    (WORDS, 512),
+    (WORDS, 2048),
+    (ROWS, 1024),
+    (COUNT, 1024),
+    (STRIDE, 65534),
+];
+
+/// Faults of a record, each with its own refusal: 10, 2 of every kind, 2 of a key, 3 and 3, 4 and 4, 11, 5.
+const FAULTS: [&[(usize, u32)]; 9] = [
+    &[(KIND, 4)],
+    &[(SIZ, 4)],
+    &[(PALETTE, 16)],
+    &[(LANE, 4)],
+    &[(MODE, 4)],
+    &[(IMAGE_SIZ, 4)],
+    &[(LENGTH, 65537)],
+    &[(OFFSET, u32::MAX)],
+    &[(FMT, 5), (MODE, 0)],
+];
+
+/// Companions' lengths, and the offsets and lengths of sources in them.
+const ENDS: [u64; 6] = [0, 8, 65536, (1 << 32) - 1, 1 << 32, (1 << 32) + 65535];
+const LENGTHS: [u32; 7] = [0, 1, 8, 65535, 65536, 65537, u32::MAX];
+
+/// Every run of the sweep.
+pub fn runs(by: By) -> Vec<Run> {
+    let run = |records, length, torn| {
+        let companion = Companion { length, fill: Fill::Random, seed: 7 };
+        Run { by, records, tail: vec![0; torn], companion }
+    };
+    let mut runs = vec![run(vec![], 8, 0), run(vec![], 8, 1)];
+    for kind in [BLOCK, TILE, TLUT, KEY] {
+        runs.push(run(limits(kind), 1000, 47));
+        runs.push(run(faults(kind), 1000, 24));
+    }
+    runs.extend(ENDS.map(|end| run(sources(end), end, 0)));
+    runs
+}
+
+/// A record whose numbers suit every kind.
+fn plain(kind: u32, numbers: &[(usize, u32)]) -> Record {
+    let mut record = Record { bytes: [0; RECORD_BYTES], surplus: 0 };
+    record.set(&[(KIND, kind), (LANE, 1), (FMT, 2), (SIZ, 1), (MODE, 2), (LINE, 1), (WIDTH, 9), (HEIGHT, 3)]);
+    record.set(&[(IMAGE_SIZ, 2), (DXT, 1024), (WORDS, 3), (ROWS, 2), (COUNT, 5), (STRIDE, 11), (OFFSET, 6), (LENGTH, 40)]);
+    record.set(numbers);
+    record
+}
+
+/// Each number at its limits and past them; and a key after each.
+fn limits(kind: u32) -> Vec<Record> {
+    let numbers = MOST.iter().flat_map(|&(place, most)| [0, most, most + 1, u32::MAX].map(|number| (place, number)));
+    numbers.flat_map(|number| [plain(kind, &[number]), plain(KEY, &[])]).collect()
+}
+
+/// Every choice of faults.
+fn faults(kind: u32) -> Vec<Record> {
+    let choices = 0..1 << FAULTS.len();
+    let chosen = |choice: u32| (0..FAULTS.len()).filter(move |i| choice >> i & 1 == 1);
+    choices.map(|choice| plain(kind, &chosen(choice).flat_map(|i| FAULTS[i]).copied().collect::<Vec<_>>())).collect()
+}
+
+/// Sources that end in a companion of a length, at its end, one byte past it, and far past it.
+fn sources(end: u64) -> Vec<Record> {
+    let mut records = Vec::new();
+    for length in LENGTHS {
+        let last = end.saturating_sub(length.into());
+        let offsets = [0, 1, last, last + 1, end, end + 1, u32::MAX.into()];
+        for offset in offsets.into_iter().filter_map(|offset| u32::try_from(offset).ok()) {
+            let source = [(OFFSET, offset), (LENGTH, length)];
+            records.extend([BLOCK, TILE, TLUT].map(|kind| plain(kind, &source)));
+        }
+        records.push(plain(KEY, &[]));
+    }
+    records
 }

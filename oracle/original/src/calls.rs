@@ -31,6 +31,11 @@ impl Memory {
         Self { tmem: Tmem::from_profile(&profiling::Bank { bytes: bank.to_vec() }) }
     }
 
+    /// Fresh memory, by the original's own default.
+    pub fn fresh() -> Self {
+        Self { tmem: Tmem::default() }
+    }
+
     /// Its bytes. A load that follows copies them first if this is still held.
     pub fn bytes(&self) -> Arc<Bytes> {
         self.tmem.share_bank()

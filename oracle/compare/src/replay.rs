@@ -1,0 +1,187 @@
+//! One run of records, done by the original's loads and keys, and by the archive or the program.
+use crate::capture::{By, Companion, Record, Run, END_BYTES, KEY, RECORD_BYTES};
+use crate::case::descriptor;
+use crate::check::{fill, same, same_answer, Amount, BEFORE};
+use crate::program::Program;
+use original::calls::{self, Load, Map, Memory};
+use tulonkasa::{slices, Refusal, Tile};
+
+/// A load's source has at most this many bytes.
+const SOURCE_MOST: u64 = 65536;
+
+/// A companion's bytes: those at its start and those at its end.
+pub struct File {
+    pub length: u64,
+    pub front: Vec<u8>,
+    pub back: Vec<u8>,
+}
+
+impl File {
+    fn new(companion: &Companion) -> Self {
+        let filled = |length: u64, seed| {
+            let mut bytes = vec![0; length as usize];
+            fill(&mut bytes, companion.fill, seed);
+            bytes
+        };
+        let length = companion.length;
+        let front = filled(length.min(END_BYTES), companion.seed);
+        let back = filled((length - front.len() as u64).min(END_BYTES), companion.seed + 1);
+        Self { length, front, back }
+    }
+
+    /// Its bytes from an offset on: so many, or as many as there are.
+    fn part(&self, offset: u64, most: u64) -> Vec<u8> {
+        let end = self.length.min(offset + most);
+        let mut part = vec![0; end.saturating_sub(offset) as usize];
+        for (start, bytes) in [(0, &self.front), (self.length - self.back.len() as u64, &self.back)] {
+            let (from, to) = (offset.max(start), end.min(start + bytes.len() as u64));
+            if from < to {
+                let found = &bytes[(from - start) as usize..(to - start) as usize];
+                part[(from - offset) as usize..(to - offset) as usize].copy_from_slice(found);
+            }
+        }
+        part
+    }
+}
+
+/// Compares a run; an error says where the two differ.
+pub fn check(run: &Run, program: Option<&Program>) -> Result<Amount, String> {
+    let file = File::new(&run.companion);
+    match (run.by, program) {
+        (By::Program, Some(program)) => by_program(run, &file, program),
+        _ => by_call(run, &file),
+    }
+}
+
+fn by_call(run: &Run, file: &File) -> Result<Amount, String> {
+    let mut original = Original::new(file);
+    let mut amount = Amount::default();
+    let (mut bank, mut written) = ([0; 4096], [0; 512]);
+    let bytes = run.bytes();
+    // What follows a record is lent with it.
+    let lent = |i: usize| &bytes[i * RECORD_BYTES..];
+    for (i, record) in run.records.iter().enumerate() {
+        let due = original.replay(record);
+        // Past the companion's end other bytes are lent, so that it is the end that is refused.
+        let mut part = file.part(record.offset(), lent_part(record));
+        part.resize(lent_part(record) as usize, BEFORE);
+        let answer = slices::replay_record(&mut bank, &mut written, lent(i), file.length, &part);
+        same_answer(due, answer)
+            .and_then(|()| same("the bank", &original.memory.bytes()[..], &bank))
+            .and_then(|()| same("the written map", &original.written, &written))
+            .map_err(|why| format!("record {i}: {why}"))?;
+        amount += counted(record, due);
+    }
+    if !run.tail.is_empty() {
+        let answer = slices::replay_record(&mut bank, &mut written, lent(run.records.len()), file.length, &file.front);
+        same_answer(Err(Refusal::Torn), answer)?;
+        amount += torn();
+    }
+    same("the bank at the end", &original.memory.bytes()[..], &bank)?;
+    same("the original's own map", &original.memory.written(), &written)?;
+    Ok(amount)
+}
+
+fn by_program(run: &Run, file: &File, program: &Program) -> Result<Amount, String> {
+    let mut original = Original::new(file);
+    let mut amount = Amount::default();
+    let mut due = String::new();
+    for record in &run.records {
+        let answer = original.replay(record);
+        due += &line(answer);
+        amount += counted(record, answer);
+    }
+    if !run.tail.is_empty() {
+        due += &line(Err(Refusal::Torn));
+        amount += torn();
+    }
+    let printed = program.replay(file, &run.bytes())?;
+    if due == printed {
+        return Ok(amount);
+    }
+    let (mut due, mut printed) = (due.split_inclusive('\n'), printed.split_inclusive('\n'));
+    let differ = (0..).map(|i| (i, due.next(), printed.next())).find(|(_, due, printed)| due != printed);
+    Err(format!("line, due and printed: {differ:?}"))
+}
+
+/// The original's memory, which is carried from record to record.
+struct Original<'a> {
+    memory: Memory,
+    written: Map,
+    file: &'a File,
+}
+
+impl<'a> Original<'a> {
+    fn new(file: &'a File) -> Self {
+        Self { memory: Memory::fresh(), written: [0; 512], file }
+    }
+
+    /// Does a record, and gives back what is due for it.
+    fn replay(&mut self, record: &Record) -> Result<u32, Refusal> {
+        if let Some(refusal) = refusal(record, self.file.length) {
+            return Err(refusal);
+        }
+        let tile = record.tile();
+        let Some(load) = record.load() else {
+            let key = calls::key(&self.memory.bytes(), &descriptor(&tile), tile.mode as u8, record.lane() as usize);
+            return key.map(|(_, kept)| kept).ok_or(Refusal::Pair);
+        };
+        let source = self.file.part(record.offset(), record.length());
+        let image_siz = record.image_siz() as u8;
+        let (stores, marks) = self.memory.load_counted(&source, &descriptor(&tile), image_siz, load);
+        self.written.iter_mut().zip(marks).for_each(|(byte, marks)| *byte |= marks);
+        Ok(stores)
+    }
+}
+
+/// The refusal that documents 01 and 02 ask for. Of refusal 5 the original is asked.
+fn refusal(record: &Record, end: u64) -> Option<Refusal> {
+    let Tile { fmt, siz, palette, mode, cms, cmt, masks, maskt, line, tmem_addr, width, height } = record.tile();
+    let load_fields = fmt > 7 || siz > 3 || line > 511 || tmem_addr > 511;
+    let other_fields = palette > 15 || cms > 3 || cmt > 3 || masks > 15 || maskt > 15 || width > 1024 || height > 1024;
+    let Some(load) = record.load() else {
+        return first(&[
+            (record.kind() > KEY, Refusal::Kind),
+            (load_fields || other_fields, Refusal::Tile),
+            (mode > 3 || record.lane() > 3, Refusal::ModeOrLane),
+        ]);
+    };
+    let numbers = match load {
+        Load::Block { dxt, words } => dxt > 4095 || words > 2048,
+        Load::Tile { rows, words, .. } => rows > 1024 || words > 512,
+        Load::Tlut { count, rows, .. } => count > 1024 || !(1..=1024).contains(&rows),
+    };
+    first(&[
+        (load_fields, Refusal::Tile),
+        (numbers || record.image_siz() > 3 || record.length() > SOURCE_MOST, Refusal::Load),
+        (end < record.offset() + record.length(), Refusal::Beyond),
+        (lent_part(record) < record.length(), Refusal::Beyond),
+    ])
+}
+
+/// The refusal of the first test that holds.
+fn first(tests: &[(bool, Refusal)]) -> Option<Refusal> {
+    tests.iter().find(|(holds, _)| *holds).map(|(_, refusal)| *refusal)
+}
+
+/// How many bytes are lent with a record.
+fn lent_part(record: &Record) -> u64 {
+    record.length().min(SOURCE_MOST + 1).saturating_add_signed(record.surplus.into())
+}
+
+/// A line of the program.
+fn line(answer: Result<u32, Refusal>) -> String {
+    match answer {
+        Ok(count) => format!("0 {count}\n"),
+        Err(refusal) => format!("{} 0\n", refusal.number()),
+    }
+}
+
+fn counted(record: &Record, answer: Result<u32, Refusal>) -> Amount {
+    let stores = if record.load().is_some() { answer.unwrap_or(0) } else { 0 };
+    Amount { calls: 1, refused: answer.is_err().into(), stores: stores.into(), ..Amount::default() }
+}
+
+fn torn() -> Amount {
+    Amount { calls: 1, refused: 1, ..Amount::default() }
+}
