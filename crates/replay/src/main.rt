@@ -26,6 +26,9 @@ const PIECE: usize = RECORDS * RECORD;
 
 const PIECE_ROOM: usize = RECORDS * LINE_ROOM;
 
+// The bytes of the companion file that are held at least, if it has them: the next records often name those after a part.
+const AHEAD: usize = 4096;
+
 // How far a piece of the records is done, which bytes of the companion file are held, where the text that was not yet written out
 // ends, and whether to go on.
 struct Progress {
@@ -106,18 +109,32 @@ fn write_full(text: &[u8], step: Progress) -> Progress
     step
 }
 
-// As many bytes of the companion file from an offset on as it has and find room.
-fn size_from(file_end: u64, offset: u64, room: usize) -> usize
+// How many bytes to hold for a record: its stated part, or more, but no more than find room.
+fn wanted(stated: u32, room: usize) -> usize
     ensures { λ r. ⌜ r ≤ room ⌝ }
+{
+    if room < AHEAD {
+        return room;
+    }
+    let part = stated as usize;
+    if part < AHEAD {
+        return AHEAD;
+    }
+    if part < room { part } else { room }
+}
+
+// As many bytes of the companion file from an offset on as it has and are wanted.
+fn size_from(file_end: u64, offset: u64, most: usize) -> usize
+    ensures { λ r. ⌜ r ≤ most ⌝ }
 {
     if file_end < offset {
         return 0;
     }
     let left = file_end - offset;
-    if left < room as u64 {
+    if left < most as u64 {
         left as usize
     } else {
-        room
+        most
     }
 }
 
@@ -141,7 +158,8 @@ fn hold_next(fd: i32, file_end: u64, records: &[u8], held: &mut [u8], step: Prog
     }
     let at = step.at;
     let offset = four_at(&records[at..], 30);
-    let size = size_from(file_end, offset as u64, held.len());
+    let stated = four_at(&records[at..], 34);
+    let size = size_from(file_end, offset as u64, wanted(stated, held.len()));
     let is_read = read_from(fd, offset, &mut held[..size]);
     if !is_read {
         io::write_all(

@@ -1,21 +1,23 @@
-// A run of records, with a piece of the companion file at hand: the file's length `end`, where the piece starts, and its bytes.
+// A run of records, with a piece of the companion file at hand.
 ghost use mathlib.Core.Path.{_≡_};
 ghost use mathlib.Core.Bool.{true};
 ghost use mathlib.Core.List.{[], _∷_};
-ghost use Prim.Native.Nat.{_+_, _*_, _<_, _≤_, min};
+ghost use Prim.Native.Nat.{_+_, _*_, _<_, _≤_};
 ghost use lib.ListN.{length};
 ghost use Rattle.rules.specs.Base.{recordOf};
 ghost use Rattle.rules.specs.Tile.{bankSize, mapSize};
 ghost use Rattle.rules.specs.Refusal.{first};
-ghost use Rattle.rules.specs.Replay.{replaySize, replayRoom, carried, piece, takesPart, atHand, inPiece, ready};
+ghost use Rattle.rules.specs.Replay.{replaySize, replayRoom, carried, piece, atHand, inPiece, ready};
 ghost use Rattle.rules.specs.Replay.{recordCount, recordsIn, firstRecords, runTests, runCall};
 ghost use Rattle.rdp.specs.View.{answered, runAnswered};
 ghost use Rattle.replaying.specs.Run.{Replayed, Run};
-use crate::fields::asks_key;
 use crate::fields::offset_in;
 use crate::fields::size_in;
 use crate::line::put_line;
-use crate::refusals::record_refusal;
+use crate::piece::ready_count;
+use crate::piece::record_count;
+use crate::piece::record_end;
+use crate::piece::takes_part;
 use crate::step::replay_step;
 use decimal::number::NUMBER_ROOM;
 use rdp::answer::Answer;
@@ -28,67 +30,6 @@ pub const RECORD: usize = 48;
 
 // The bytes of the longest line: two numbers with a byte after each.
 pub const LINE_ROOM: usize = 2 * NUMBER_ROOM;
-
-// The record is a load that no test refuses.
-fn takes_part(bytes: &[u8], end: u64) -> bool
-    ensures { λ r. ⌜ r ≡ takesPart end (now (bytes .entry)) ⌝ }
-{
-    (record_refusal(bytes, end) == 0) & !asks_key(bytes)
-}
-
-// The record's part is in the piece, or it takes none.
-fn at_hand(bytes: &[u8], end: u64, start: u64, held: &[u8]) -> bool
-    ensures { λ r. ⌜ r ≡ atHand (piece end start (now (held .entry))) (now (bytes .entry)) ⌝ }
-{
-    if !takes_part(bytes, end) {
-        return true;
-    }
-    let offset = offset_in(bytes);
-    if offset < start {
-        return false;
-    }
-    offset + size_in(bytes) - start <= held.len() as u64
-}
-
-// How many records an input has; a torn tail is the last.
-fn record_count(input: &[u8]) -> usize
-    ensures { λ r. ⌜ r ≡ recordCount (now (input .entry)) ⌝ }
-{
-    let whole = input.len() / RECORD;
-    if input.len() % RECORD == 0 {
-        whole
-    } else {
-        whole + 1
-    }
-}
-
-// Where record i ends.
-fn record_end(input: &[u8], i: usize) -> usize
-    requires { ⌜ i < recordCount (now input) ⌝ }
-    ensures { λ r. ⌜ r ≡ min (i * replaySize + replaySize) (length (now (input .entry))) ⌝ }
-{
-    let start = i * RECORD;
-    if input.len() - start < RECORD {
-        input.len()
-    } else {
-        start + RECORD
-    }
-}
-
-// How many records come before the first whose part is not at hand.
-fn ready_count(input: &[u8], end: u64, start: u64, held: &[u8]) -> usize
-    ensures { λ r. ⌜ r ≡ ready (piece end start (now (held .entry))) (recordsIn (now (input .entry))) ⌝ }
-{
-    let count = record_count(input);
-    for i in 0..count {
-        let from = i * RECORD;
-        let to = record_end(input, i);
-        if !at_hand(&input[from..to], end, start, held) {
-            return i;
-        }
-    }
-    count
-}
 
 // A record whose part is at hand.
 fn replay_at_hand(

@@ -1,5 +1,6 @@
--- `replay::hold_next` reads as much as the file has and finds room. Assumes nothing.
+-- `replay::hold_next` reads no more than finds room. Assumes nothing.
 use mathlib.Core.Path.{sym}
+use native.Mathlib.Omega.{arith}
 use lib.Seq.{length-take-le}
 use borrow.Author.Needs.{needs}
 use Rattle.replay.proofs.hold_next.Statement.{statement}
@@ -20,8 +21,23 @@ part-four-at-end c = search needs
 four-at-requires : tie.Need-four-at-requires
 four-at-requires c κs = search needs
 
+sub-four-at-2 : tie.Need-sub-four-at-2
+sub-four-at-2 c = search needs
+
+part-four-at-start-2 : tie.Need-part-four-at-start-2
+part-four-at-start-2 c = search needs
+
+part-four-at-end-2 : tie.Need-part-four-at-end-2
+part-four-at-end-2 c = search needs
+
+four-at-requires-2 : tie.Need-four-at-requires-2
+four-at-requires-2 c κs = search needs
+
 cast-size-from : tie.Need-cast-size-from
 cast-size-from c = search needs
+
+wanted-requires : tie.Need-wanted-requires
+wanted-requires c κs = search needs
 
 size-from-requires : tie.Need-size-from-requires
 size-from-requires c κs = search needs
@@ -30,7 +46,9 @@ slice-relend-prefix-read-from : tie.Need-slice-relend-prefix-read-from
 slice-relend-prefix-read-from c = search needs
 
 slice-aggregate-read-from : tie.Need-slice-aggregate-read-from
-slice-aggregate-read-from c = sym (length-take-le _ _ (c .before .size-from .ensures))
+slice-aggregate-read-from c =
+    let z = c .before in
+    sym (length-take-le _ _ (omega (arith, z .size-from .ensures, z .before .wanted .ensures)))
 
 read-from-requires : tie.Need-read-from-requires
 read-from-requires c κs = search needs
@@ -41,8 +59,8 @@ slice-aggregate-write-all c = search needs
 write-all-requires : tie.Need-write-all-requires
 write-all-requires c κs = search needs
 
-cast-t16 : tie.Need-cast-t16
-cast-t16 c = search needs
+cast-t20 : tie.Need-cast-t20
+cast-t20 c = search needs
 
 same-length : tie.Need-same-length
 same-length c = search needs
@@ -59,13 +77,18 @@ hold-next-spec =
     part-four-at-start
     part-four-at-end
     four-at-requires
+    sub-four-at-2
+    part-four-at-start-2
+    part-four-at-end-2
+    four-at-requires-2
     cast-size-from
+    wanted-requires
     size-from-requires
     slice-relend-prefix-read-from
     slice-aggregate-read-from
     read-from-requires
     slice-aggregate-write-all
     write-all-requires
-    cast-t16
+    cast-t20
     same-length
     returns-2)

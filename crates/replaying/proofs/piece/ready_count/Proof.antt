@@ -1,4 +1,4 @@
--- `replaying::run::ready_count` counts records up to the first whose part is not at hand. Assumes nothing.
+-- `replaying::piece::ready_count` counts records up to the first whose part is not at hand. Assumes nothing.
 use mathlib.Core.Path.{_≡_, ap, sym, _∙_}
 use Prim.Native.Nat.{_+_, _-_, _*_, _<_, _≤_}
 use native.Mathlib.Omega.{arith}
@@ -9,8 +9,8 @@ use Rattle.rules.specs.Base.{recordOf, tab}
 use Rattle.rules.specs.Replay.{replaySize, piece, atHand, ready, recordCount, recordsIn}
 use Rattle.replaying.proofs.Held.{record-part}
 use Rattle.replaying.proofs.Ready.{Ahead, ahead-start, ahead-stop, ahead-more, ahead-end}
-use Rattle.replaying.proofs.run.ready_count.Statement.{statement}
-use Rattle.replaying.proofs.run.ready_count.Tie as tie
+use Rattle.replaying.proofs.piece.ready_count.Statement.{statement}
+use Rattle.replaying.proofs.piece.ready_count.Tie as tie
 
 abbrev Inv-loop : tie.InvT-loop
 Inv-loop input end start held count i₀ i =

@@ -1,4 +1,4 @@
--- `replaying::run::at_hand` compares the part's ends with the piece's. Assumes nothing.
+-- `replaying::piece::at_hand` compares the part's ends with the piece's. Assumes nothing.
 use mathlib.Core.Path.{_≡_, sym, _∙_}
 use Prim.Native.Nat.{_+_, _-_, _<_, _≤_}
 use native.Mathlib.Omega.{arith}
@@ -8,8 +8,8 @@ use borrow.Author.Tests.{not-true, not-false}
 use Rattle.rules.specs.Replay.{offsetIn}
 use Rattle.replaying.proofs.Held.{takes-none, starts-before, ends-within}
 use borrow.Author.Needs.{needs}
-use Rattle.replaying.proofs.run.at_hand.Statement.{statement}
-use Rattle.replaying.proofs.run.at_hand.Tie as tie
+use Rattle.replaying.proofs.piece.at_hand.Statement.{statement}
+use Rattle.replaying.proofs.piece.at_hand.Tie as tie
 
 takes-part-requires : tie.Need-takes-part-requires
 takes-part-requires c κs = search needs

@@ -1,8 +1,8 @@
--- `replaying::run::takes_part` joins the refusal and the kind. Assumes nothing.
+-- `replaying::piece::takes_part` joins the refusal and the kind. Assumes nothing.
 use borrow.Author.Needs.{needs}
 use Rattle.replaying.proofs.Held.{takes-is}
-use Rattle.replaying.proofs.run.takes_part.Statement.{statement}
-use Rattle.replaying.proofs.run.takes_part.Tie as tie
+use Rattle.replaying.proofs.piece.takes_part.Statement.{statement}
+use Rattle.replaying.proofs.piece.takes_part.Tie as tie
 
 record-refusal-requires : tie.Need-record-refusal-requires
 record-refusal-requires c κs = search needs
