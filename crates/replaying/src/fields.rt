@@ -3,7 +3,7 @@ ghost use mathlib.Core.Path.{_≡_};
 ghost use Prim.Native.Nat.{_^_, _<_, _≤_};
 ghost use lib.ListN.{length};
 ghost use Rattle.rules.specs.Load.{loadTile};
-ghost use Rattle.rules.specs.Replay.{replaySize, kindIn, tileIn, modeIn, imageIn, offsetIn, sizeIn, asksKey, storesIn, outsideIn};
+ghost use Rattle.rules.specs.Replay.{replaySize, kindIn, laneIn, tileIn, modeIn, imageIn, offsetIn, sizeIn, asksKey, storesIn, outsideIn};
 ghost use Rattle.rdp.specs.View.{tileOf};
 ghost use Rattle.tmem.specs.Asked.{askedOutside, askedStores};
 use rdp::tile::TileDescriptor;
@@ -29,6 +29,12 @@ pub(crate) fn asks_key(bytes: &[u8]) -> bool
     ensures { λ r. ⌜ r ≡ asksKey (now (bytes .entry)) ⌝ }
 {
     kind_in(bytes) == 3
+}
+
+pub(crate) fn lane_in(bytes: &[u8]) -> u32
+    ensures { λ r. ⌜ r ≡ laneIn (now (bytes .entry)) ⌝ }
+{
+    byte_at(bytes, 1)
 }
 
 pub(crate) fn tile_in(bytes: &[u8]) -> TileDescriptor

@@ -10,13 +10,13 @@ use crate::fields::asked_in;
 use crate::fields::asks_key;
 use crate::fields::image_in;
 use crate::fields::kind_in;
+use crate::fields::lane_in;
 use crate::fields::mode_in;
 use crate::fields::offset_in;
 use crate::fields::size_in;
 use crate::fields::tile_in;
 use crate::run::RECORD;
 use rdp::refusal;
-use record::numbers::byte_at;
 use texdec::pair::pair_refusal;
 use tmem::load::number_refusal;
 
@@ -26,7 +26,7 @@ fn key_refusal(bytes: &[u8]) -> u32
     ensures { λ r. ⌜ r ≡ first (pairTests (tileIn (now (bytes .entry))) (modeIn (now (bytes .entry))) (laneIn (now (bytes .entry)))
         (unknownPair (tileIn (now (bytes .entry))) (modeIn (now (bytes .entry))) ∷ [])) ⌝ }
 {
-    pair_refusal(tile_in(bytes), mode_in(bytes), byte_at(bytes, 1))
+    pair_refusal(tile_in(bytes), mode_in(bytes), lane_in(bytes))
 }
 
 // Of a load: 2, 4, and next after 4 the refusal 11.

@@ -13,13 +13,13 @@ ghost use Rattle.tmem.specs.Part.{Counted};
 use crate::fields::asked_in;
 use crate::fields::asks_key;
 use crate::fields::image_in;
+use crate::fields::lane_in;
 use crate::fields::mode_in;
 use crate::fields::tile_in;
 use crate::refusals::record_refusal;
 use key::cut::empty_key;
 use key::key::key;
 use rdp::answer::Answer;
-use record::numbers::byte_at;
 use tmem::load::load;
 
 // The kept count of the key that a record asks for. The key is cut for its count alone.
@@ -36,7 +36,7 @@ fn kept_count(bank: &[u8], bytes: &[u8]) -> u32
         bank,
         tile_in(bytes),
         mode_in(bytes),
-        byte_at(bytes, 1),
+        lane_in(bytes),
         &mut out,
     );
     cut.count

@@ -13,7 +13,7 @@ use rdp::refusal;
 use rdp::tile::TileDescriptor;
 
 // The bytes that a source has at most.
-pub const SOURCE_LIMIT: usize = 65536;
+const SOURCE_LIMIT: usize = 65536;
 
 // The first refusal of a load's numbers, for a source of `size` bytes: 2, then 4. 0 is none.
 pub fn number_refusal(size: usize, tile: TileDescriptor, image_siz: u32, asked: Asked) -> u32

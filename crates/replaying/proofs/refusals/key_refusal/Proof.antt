@@ -15,8 +15,8 @@ tile-in-requires c κs = search needs
 mode-in-requires : tie.Need-mode-in-requires
 mode-in-requires c κs = search needs
 
-byte-at-requires : tie.Need-byte-at-requires
-byte-at-requires c κs = search needs
+lane-in-requires : tie.Need-lane-in-requires
+lane-in-requires c κs = search needs
 
 pair-refusal-requires : tie.Need-pair-refusal-requires
 pair-refusal-requires c κs = search needs
@@ -28,10 +28,10 @@ returns c =
     let t = m .before in
     let b = t .before .before .args .bytes .now in
     c .pair-refusal .ensures
-    ∙ (λ i. first (pairTests (t .tile-in .ensures i) (m .mode-in .ensures i) (l .byte-at .ensures i) []))
+    ∙ (λ i. first (pairTests (t .tile-in .ensures i) (m .mode-in .ensures i) (l .lane-in .ensures i) []))
     ∙ never-nine (tileIn b) (modeIn b) (laneIn b)
 
 pub key-refusal-spec : {M : Type 1} → statement M
 key-refusal-spec =
     tie.close
-    (tie.spec tile-in-requires mode-in-requires byte-at-requires pair-refusal-requires returns)
+    (tie.spec tile-in-requires mode-in-requires lane-in-requires pair-refusal-requires returns)

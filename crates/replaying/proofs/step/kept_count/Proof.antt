@@ -19,8 +19,8 @@ tile-in-requires c κs = search needs
 mode-in-requires : tie.Need-mode-in-requires
 mode-in-requires c κs = search needs
 
-byte-at-requires : tie.Need-byte-at-requires
-byte-at-requires c κs = search needs
+lane-in-requires : tie.Need-lane-in-requires
+lane-in-requires c κs = search needs
 
 slice-aggregate-key : tie.Need-slice-aggregate-key
 slice-aggregate-key c = search needs
@@ -39,7 +39,7 @@ returns c =
     let b = s .args .bytes .now in
     let room = ap length (o .empty-key .ensures) ∙ length-replicate {A = ℕ} bankSize 0 in
     let answer = k .key .ensures
-    ∙ (λ i. keyCall (s .args .bank .now) (t .tile-in .ensures i) (m .mode-in .ensures i) (l .byte-at .ensures i) (o .empty-key .result)) in
+    ∙ (λ i. keyCall (s .args .bank .now) (t .tile-in .ensures i) (m .mode-in .ensures i) (l .lane-in .ensures i) (o .empty-key .result)) in
     called-count (s .args .bank .now) (tileIn b) (modeIn b) (laneIn b) _ (s .pre .0) room _ _ _ answer (s .pre .1 .1)
 
 pub kept-count-spec : {M : Type 1} → statement M
@@ -49,7 +49,7 @@ kept-count-spec =
     empty-key-requires
     tile-in-requires
     mode-in-requires
-    byte-at-requires
+    lane-in-requires
     slice-aggregate-key
     key-requires
     returns)
