@@ -1,7 +1,7 @@
 -- Demand 3 at each record: a key's record that is not refused, after any records of a replay, prints the kept count of the bank as it
 -- stands, changes nothing, and demand 3's theorems hold of that bank.
-use mathlib.Core.Path.{_≡_, refl, sym, _∙_}
-use mathlib.Core.Bool.{Bool, true, cond}
+use mathlib.Core.Path.{_≡_, sym, _∙_}
+use mathlib.Core.Bool.{true, cond}
 use mathlib.Core.List.{List, [], _∷_}
 use mathlib.Core.Logic.{_↔_}
 use Prim.Native.Nat.{ℕ, _<_}

@@ -6,7 +6,7 @@ use native.Mathlib.Omega.{arith}
 use lib.ListN.{length, getD}
 use Rattle.rules.specs.Base.{over}
 use Rattle.rules.specs.Refusal.{Outcome, first, settle, call}
-use Rattle.rules.specs.Replay.{carried, Piece, inPiece, replayed, lines, texts, firstRecords, recordCount, recordsIn, ready}
+use Rattle.rules.specs.Replay.{carried, Piece, inPiece, lines, texts, firstRecords, recordCount, recordsIn, ready}
 use Rattle.rules.specs.Replay.{runTests, runCall}
 use Rattle.rules.proofs.ReplayPieces.{ready-count}
 use Rattle.decimal.proofs.Writes.{over-within}

@@ -18,7 +18,7 @@ use Rattle.rules.proofs.Refused.{first-zero, done-is}
 use Rattle.rules.proofs.Tables.{tab-none, tab-more}
 use Rattle.rules.proofs.Replay.{replayed-append, lines-append, texts-append}
 use Rattle.decimal.proofs.Texts.{Put}
-use Rattle.decimal.proofs.Writes.{Wrote, wrote-none, wrote-start, wrote-more}
+use Rattle.decimal.proofs.Writes.{wrote-start, wrote-more}
 use Rattle.replaying.specs.Run.{Replayed, Run}
 
 -- a line's two numbers were put, the second where the first ends

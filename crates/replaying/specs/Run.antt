@@ -1,7 +1,7 @@
 -- What a record, and a run of records, leave of bank, map and text. It only names what the rules say.
 use mathlib.Core.Path.{_≡_}
 use mathlib.Core.List.{List, _++_}
-use Prim.Native.Nat.{ℕ, _+_, _*_, _≤_}
+use Prim.Native.Nat.{ℕ, _+_, _≤_}
 use lib.ListN.{length, take}
 use Rattle.rules.specs.Base.{over}
 use Rattle.rules.specs.Lister.{lineText}

@@ -1,16 +1,16 @@
 -- What the tests of a replay's record leave where none fails, and the calls by their tests.
 use mathlib.Core.Path.{_≡_, refl, ap, sym, _∙_}
-use mathlib.Core.Bool.{Bool, true, false, cond, _||_}
-use mathlib.Core.List.{List, [], _∷_, _++_}
-use Prim.Native.Nat.{ℕ, zero, suc, _≤_}
+use mathlib.Core.Bool.{Bool, true, false, cond}
+use mathlib.Core.List.{List, [], _∷_}
+use Prim.Native.Nat.{ℕ, _≤_}
 use native.Mathlib.Omega.{arith}
 use lib.Dec.{ltb}
-use lib.ListN.{length, take}
+use lib.ListN.{length}
 use borrow.Author.Tests.{ltb-false, le-ltb}
 use Rattle.rules.specs.Tile.{Tile, bankSize, mapSize, loadFieldsOutside}
 use Rattle.rules.specs.Load.{stored, written}
 use Rattle.rules.specs.Key.{keptCount}
-use Rattle.rules.specs.Refusal.{Test, _if_, Outcome, first, settle, call}
+use Rattle.rules.specs.Refusal.{Test, _if_, first, settle, call}
 use Rattle.rules.specs.Calls.{notBytes, sourceOutside, numberTests, pairTests, unknownPair}
 use Rattle.rules.specs.Replay.{replaySize, kindIn, laneIn, tileIn, modeIn, imageIn, sizeIn, asksKey, storesIn, outsideIn}
 use Rattle.rules.specs.Replay.{beyond, recordTests, carried, countOf, left, outcome, partOf, shortPart, replayTests}

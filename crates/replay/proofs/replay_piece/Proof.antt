@@ -1,6 +1,6 @@
 -- `replay::replay_piece` keeps the places inside the bytes that are held and the text. The measure is the number of turns that are
 -- left. Assumes nothing.
-use mathlib.Core.Path.{_≡_, refl, _∙_}
+use mathlib.Core.Path.{_≡_, refl}
 use mathlib.Core.Bool.{_&&_}
 use Prim.Native.Nat.{_+_, _<_, _≤_}
 use native.Mathlib.Omega.{arith}

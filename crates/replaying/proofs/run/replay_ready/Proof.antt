@@ -1,11 +1,9 @@
 -- `replaying::run::replay_ready` replays a record a turn, and writes its line where the ones before it end. Assumes nothing.
-use mathlib.Core.Path.{_≡_, refl, sym, _∙_}
+use mathlib.Core.Path.{_≡_, refl, _∙_}
 use Prim.Native.Nat.{_-_, _*_, _<_, _≤_}
 use native.Mathlib.Omega.{arith}
 use lib.ListN.{length}
-use borrow.Author.Needs.{needs}
 use Rattle.rules.specs.Base.{recordOf}
-use Rattle.rules.specs.Tile.{bankSize, mapSize}
 use Rattle.rules.specs.Replay.{replaySize, replayRoom, carried, piece, ready, recordCount, recordsIn, firstRecords}
 use Rattle.rules.proofs.ReplayPieces.{ready-count}
 use Rattle.replaying.specs.Run.{Run}

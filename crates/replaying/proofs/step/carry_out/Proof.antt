@@ -1,6 +1,6 @@
 -- `replaying::step::carry_out` does the load that the record says. Assumes nothing.
-use mathlib.Core.Path.{_≡_, ap, _∙_}
-use mathlib.Core.List.{[], _∷_}
+use mathlib.Core.Path.{ap, _∙_}
+use mathlib.Core.List.{[]}
 use lib.ListN.{length}
 use Rattle.rules.specs.Refusal.{first}
 use Rattle.rules.specs.Calls.{numberTests}

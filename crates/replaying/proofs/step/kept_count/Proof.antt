@@ -1,5 +1,5 @@
 -- `replaying::step::kept_count` answers the count of the key that it cuts. Assumes nothing.
-use mathlib.Core.Path.{_≡_, ap, _∙_}
+use mathlib.Core.Path.{ap, _∙_}
 use Prim.Native.Nat.{ℕ}
 use lib.ListN.{length, length-replicate}
 use Rattle.rules.specs.Tile.{bankSize}
