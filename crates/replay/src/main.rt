@@ -14,7 +14,9 @@ use libc::STDERR_FILENO;
 use libc::STDIN_FILENO;
 use libc::STDOUT_FILENO;
 use record::numbers::four_at;
+use replaying::run::LENGTH_AT;
 use replaying::run::LINE_ROOM;
+use replaying::run::OFFSET_AT;
 use replaying::run::RECORD;
 use replaying::run::replay_run;
 use tmem::bank::Bank;
@@ -157,8 +159,8 @@ fn hold_next(fd: i32, file_end: u64, records: &[u8], held: &mut [u8], step: Prog
         return step;
     }
     let at = step.at;
-    let offset = four_at(&records[at..], 30);
-    let stated = four_at(&records[at..], 34);
+    let offset = four_at(&records[at..], OFFSET_AT);
+    let stated = four_at(&records[at..], LENGTH_AT);
     let size = size_from(file_end, offset as u64, wanted(stated, held.len()));
     let is_read = read_from(fd, offset, &mut held[..size]);
     if !is_read {

@@ -6,6 +6,8 @@ ghost use Rattle.rules.specs.Load.{loadTile};
 ghost use Rattle.rules.specs.Replay.{replaySize, kindIn, laneIn, tileIn, modeIn, imageIn, offsetIn, sizeIn, asksKey, storesIn, outsideIn};
 ghost use Rattle.rdp.specs.View.{tileOf};
 ghost use Rattle.tmem.specs.Asked.{askedOutside, askedStores};
+use crate::run::LENGTH_AT;
+use crate::run::OFFSET_AT;
 use rdp::tile::TileDescriptor;
 use record::fields::record_mode;
 use record::fields::record_tile;
@@ -62,7 +64,7 @@ pub(crate) fn offset_in(bytes: &[u8]) -> u64
     ensures { λ r. ⌜ r ≡ offsetIn (now (bytes .entry)) ⌝ }
     ensures { λ r. ⌜ r < 2 ^ 32 ⌝ }
 {
-    four_at(bytes, 30) as u64
+    four_at(bytes, OFFSET_AT) as u64
 }
 
 // The bytes of that part.
@@ -70,7 +72,7 @@ pub(crate) fn size_in(bytes: &[u8]) -> u64
     ensures { λ r. ⌜ r ≡ sizeIn (now (bytes .entry)) ⌝ }
     ensures { λ r. ⌜ r < 2 ^ 32 ⌝ }
 {
-    four_at(bytes, 34) as u64
+    four_at(bytes, LENGTH_AT) as u64
 }
 
 // What its load is asked for.

@@ -28,6 +28,11 @@ use tmem::bank::Bank;
 // The bytes of a record.
 pub const RECORD: usize = 48;
 
+// Where a record has the offset of its part of the companion file, and the part's length.
+pub const OFFSET_AT: u32 = 30;
+
+pub const LENGTH_AT: u32 = 34;
+
 // The bytes of the longest line: two numbers with a byte after each.
 pub const LINE_ROOM: usize = 2 * NUMBER_ROOM;
 
