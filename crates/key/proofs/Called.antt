@@ -1,25 +1,15 @@
 -- What a caller of `key` knows that lent a whole bank and a whole key: the refusal is that of tile, mode, lane and pair, and where
 -- there is none the count is the kept count.
-use mathlib.Core.Path.{_≡_, refl, ap, sym, _∙_}
+use mathlib.Core.Path.{_≡_, ap, sym, _∙_}
 use mathlib.Core.List.{List, [], _∷_}
-use Prim.Native.Nat.{ℕ, zero, suc}
+use Prim.Native.Nat.{ℕ}
 use lib.ListN.{length}
 use borrow.Author.Tests.{eq-eqb}
 use Rattle.rules.specs.Tile.{Tile, bankSize}
-use Rattle.rules.specs.Refusal.{Test, Outcome, first, settle, call}
+use Rattle.rules.specs.Refusal.{Outcome, first}
 use Rattle.rules.specs.Calls.{pairTests, unknownPair, keyTests, keyCall}
 use Rattle.rules.specs.Key.{key, keptCount}
-use Rattle.rules.proofs.Refused.{done-is}
-
-settled-refusal : (n : ℕ) (numbers : List ℕ) (left lent : List (List ℕ)) → (settle n numbers left lent) .refusal ≡ n
-unfolding settle
-settled-refusal zero numbers left lent = refl
-settled-refusal (suc n) numbers left lent = refl
-
--- a call answers its first refusal
-call-refusal : (tests : List Test) (numbers : List ℕ) (left lent : List (List ℕ)) → (call tests numbers left lent) .refusal ≡ first tests
-unfolding call
-call-refusal tests numbers left lent = settled-refusal (first tests) numbers left lent
+use Rattle.rules.proofs.Refused.{call-refusal, done-is}
 
 module _ (bank : List ℕ) (t : Tile) (mode lane : ℕ) (out : List ℕ) (whole : length bank ≡ bankSize) (room : length out ≡ bankSize) where
   -- with a whole bank and a whole key, these tests are left

@@ -3,16 +3,14 @@ use mathlib.Core.Path.{_≡_, refl, sym, _∙_}
 use mathlib.Core.Bool.{Bool, true, false, not, _&&_}
 use mathlib.Core.List.{List, [], _∷_, _++_}
 use Prim.Native.Nat.{ℕ, _+_, _<_, _≤_}
-use native.Mathlib.Omega.{arith}
 use lib.Dec.{ltb}
 use lib.ListN.{length}
-use borrow.Author.Tests.{eq-eqb, ne-eqb, lt-ltb, le-ltb, eqb-true, not-false}
-use Rattle.rules.specs.Tile.{bankSize, mapSize}
-use Rattle.rules.specs.Refusal.{_if_, first}
-use Rattle.rules.specs.Calls.{notBytes, numberTests}
+use borrow.Author.Tests.{lt-ltb, le-ltb}
+use Rattle.rules.specs.Refusal.{Test, first}
+use Rattle.rules.specs.Calls.{numberTests}
 use Rattle.rules.specs.Replay.{replaySize, kindIn, tileIn, imageIn, offsetIn, sizeIn, asksKey, outsideIn, beyond, recordTests}
-use Rattle.rules.specs.Replay.{shortPart, replayTests}
-use Rattle.rules.proofs.Refused.{numbered, first-zero, first-before, first-after}
+use Rattle.rules.specs.Replay.{shortPart}
+use Rattle.rules.proofs.Refused.{numbered, first-before, first-after}
 use Rattle.rules.proofs.ReplayTests.{keyTestsIn, loadTestsIn, tests-numbered}
 
 module _ (end : ℕ) (r : List ℕ) where
@@ -57,37 +55,21 @@ pub short-is : (part r : List ℕ) (key : Bool) (size : ℕ) → key ≡ asksKey
     → (not key && ltb (length part) size) ≡ shortPart part r .fails
 short-is part r key size k e = rw (k, e)
 
--- the call's tests: both lengths, the record's own, and the part's
-module _ (bank map r : List ℕ) (end : ℕ) (part : List ℕ) where
-  pub short-bank : (length bank ≡ bankSize → ⊥) → 1 ≡ first (replayTests bank map r end part)
+-- the call's tests after those of bank and map: the record's own, and the part's
+abbrev pub ownTests : ℕ → List ℕ → List ℕ → List Test
+ownTests end r part = recordTests end r ++ (shortPart part r ∷ [])
+
+module _ (end : ℕ) (r part : List ℕ) (n : ℕ) (is : n ≡ first (recordTests end r)) where
+  pub by-record : (n ≡ 0 → ⊥) → n ≡ first (ownTests end r part)
+  by-record = first-before (recordTests end r) (shortPart part r ∷ []) n (tests-numbered end r) is
+
+  own : n ≡ 0 → first (ownTests end r part) ≡ first (shortPart part r ∷ [])
+  own z = first-after (recordTests end r) (shortPart part r ∷ []) (tests-numbered end r) (sym is ∙ z)
+
+  pub by-part : n ≡ 0 → shortPart part r .fails ≡ true → 11 ≡ first (ownTests end r part)
   unfolding first
-  short-bank h = rw (ne-eqb _ _ h)
+  by-part z h = sym (own z ∙ rw h)
 
-  module _ (b : length bank ≡ bankSize) where
-    pub short-map : (length map ≡ mapSize → ⊥) → 1 ≡ first (replayTests bank map r end part)
-    unfolding first
-    short-map h = rw (eq-eqb _ _ b, ne-eqb _ _ h)
-
-    module _ (m : length map ≡ mapSize) (n : ℕ) (is : n ≡ first (recordTests end r)) where
-      pub by-record : (n ≡ 0 → ⊥) → n ≡ first (replayTests bank map r end part)
-      unfolding first
-      by-record h =
-          rw (eq-eqb _ _ b, eq-eqb _ _ m) (first-before (recordTests end r) (shortPart part r ∷ []) n (tests-numbered end r) is h)
-
-      own : n ≡ 0 → first (recordTests end r ++ (shortPart part r ∷ [])) ≡ first (shortPart part r ∷ [])
-      own z = first-after (recordTests end r) (shortPart part r ∷ []) (tests-numbered end r) (sym is ∙ z)
-
-      pub by-part : n ≡ 0 → shortPart part r .fails ≡ true → 11 ≡ first (replayTests bank map r end part)
-      unfolding first
-      by-part z h = rw (eq-eqb _ _ b, eq-eqb _ _ m) (sym (own z ∙ rw h))
-
-      pub by-nothing : n ≡ 0 → shortPart part r .fails ≡ false → 0 ≡ first (replayTests bank map r end part)
-      unfolding first
-      by-nothing z h = rw (eq-eqb _ _ b, eq-eqb _ _ m) (sym (own z ∙ rw h))
-
-  -- a call that is not refused was lent a whole bank and a whole map
-  pub call-lent : first (replayTests bank map r end part) ≡ 0 → (length bank ≡ bankSize) × (length map ≡ mapSize)
-  call-lent z =
-      let p = first-zero (1 if notBytes bankSize bank) _ (λ e. omega arith) z in
-      let q = first-zero (1 if notBytes mapSize map) _ (λ e. omega arith) (p .1) in
-      (eqb-true _ _ (not-false _ (p .0)), eqb-true _ _ (not-false _ (q .0)))
+  pub by-nothing : n ≡ 0 → shortPart part r .fails ≡ false → 0 ≡ first (ownTests end r part)
+  unfolding first
+  by-nothing z h = sym (own z ∙ rw h)

@@ -3,18 +3,17 @@ use mathlib.Core.Path.{_≡_, refl, ap, sym, _∙_}
 use mathlib.Core.List.{List, [], _∷_, _++_, append-assoc, append-nil}
 use Prim.Native.Nat.{ℕ, _+_, _*_, _<_, _≤_}
 use native.Mathlib.Omega.{arith}
-use lib.Dec.{ltb}
 use lib.ListN.{length, take, length-append}
 use lib.Seq.{length-take-le}
-use borrow.Author.Tests.{eq-eqb, ne-eqb, lt-ltb, le-ltb, eqb-true, ltb-false, not-false}
+use borrow.Author.Tests.{lt-ltb, le-ltb, ltb-false}
 use Rattle.rules.specs.Base.{recordOf, over}
 use Rattle.rules.specs.Tile.{bankSize, mapSize}
-use Rattle.rules.specs.Calls.{notBytes}
 use Rattle.rules.specs.Lister.{lineText, numberText}
-use Rattle.rules.specs.Refusal.{_if_, Outcome, first}
+use Rattle.rules.specs.Refusal.{Outcome, first}
 use Rattle.rules.specs.Replay.{replaySize, replayRoom, Carried, carried, Piece, inPiece, lineIn, onward, replayed, lines, texts}
-use Rattle.rules.specs.Replay.{firstRecords, recordCount, recordsIn, ready, runTests, runCall}
+use Rattle.rules.specs.Replay.{firstRecords, recordCount, recordsIn, ready, shortText, runTests, runCall}
 use Rattle.rules.proofs.Refused.{first-zero, done-is}
+use Rattle.rules.proofs.LentTests.{both-lent, lent-passed}
 use Rattle.rules.proofs.Tables.{tab-none, tab-more}
 use Rattle.rules.proofs.Replay.{replayed-append, lines-append, texts-append}
 use Rattle.decimal.proofs.Texts.{Put}
@@ -73,32 +72,24 @@ module _ (p : Piece) (input : List ℕ) (m : Carried) (out : List ℕ) where
 
 -- The run's call, by its tests.
 module _ (bank map input out : List ℕ) where
-  pub run-short-bank : (length bank ≡ bankSize → ⊥) → 1 ≡ first (runTests bank map input out)
-  unfolding first
-  run-short-bank h = rw (ne-eqb _ _ h)
+  module _ (b : length bank ≡ bankSize) (m : length map ≡ mapSize) where
+    lent : first (runTests bank map input out) ≡ first (shortText input out ∷ [])
+    lent = both-lent bank map (shortText input out ∷ []) b m
 
-  module _ (b : length bank ≡ bankSize) where
-    pub run-short-map : (length map ≡ mapSize → ⊥) → 1 ≡ first (runTests bank map input out)
+    pub run-short-text : length out < replayRoom * recordCount input → 6 ≡ first (runTests bank map input out)
     unfolding first
-    run-short-map h = rw (eq-eqb _ _ b, ne-eqb _ _ h)
+    run-short-text h = sym (lent ∙ rw (lt-ltb _ _ h))
 
-    module _ (m : length map ≡ mapSize) where
-      pub run-short-text : length out < replayRoom * recordCount input → 6 ≡ first (runTests bank map input out)
-      unfolding first
-      run-short-text h = rw (eq-eqb _ _ b, eq-eqb _ _ m, lt-ltb _ _ h)
-
-      pub run-whole : replayRoom * recordCount input ≤ length out → 0 ≡ first (runTests bank map input out)
-      unfolding first
-      run-whole h = rw (eq-eqb _ _ b, eq-eqb _ _ m, le-ltb _ _ h)
+    pub run-whole : replayRoom * recordCount input ≤ length out → 0 ≡ first (runTests bank map input out)
+    unfolding first
+    run-whole h = sym (lent ∙ rw (le-ltb _ _ h))
 
   module _ (passed : first (runTests bank map input out) ≡ 0) where
     -- a run that is not refused was lent a whole bank and a whole map, and has room for its lines
     pub run-lent : ((length bank ≡ bankSize) × (length map ≡ mapSize)) × (replayRoom * recordCount input ≤ length out)
     run-lent =
-        let p = first-zero (1 if notBytes bankSize bank) _ (λ e. omega arith) passed in
-        let q = first-zero (1 if notBytes mapSize map) _ (λ e. omega arith) (p .1) in
-        let t = first-zero (6 if ltb (length out) (replayRoom * recordCount input)) _ (λ e. omega arith) (q .1) in
-        ((eqb-true _ _ (not-false _ (p .0)), eqb-true _ _ (not-false _ (q .0))), ltb-false _ _ (t .0))
+        let p = lent-passed bank map (shortText input out ∷ []) passed in
+        (p .0, ltb-false _ _ (first-zero (shortText input out) [] (λ e. omega arith) (p .1) .0))
 
     -- and answers and leaves what its call says
     pub run-done : (p : Piece) (n end : ℕ) (bank′ map′ out′ : List ℕ) → n ≡ ready p (recordsIn input)

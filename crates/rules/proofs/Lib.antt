@@ -8,10 +8,12 @@ pub mod Parts
 pub mod Maps
 pub mod Bits
 pub mod Loads
+pub mod MadeUp
 pub mod Swaps
 pub mod Rows
 pub mod Formats
 pub mod Refused
+pub mod LentTests
 pub mod Ranges
 pub mod Allowed
 pub mod Records

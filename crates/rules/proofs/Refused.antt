@@ -83,6 +83,17 @@ unfolding settle
 settled zero numbers left lent z = absurd (z refl)
 settled (suc n) numbers left lent z = refl
 
+settled-refusal : (n : ℕ) (numbers : List ℕ) (left lent : List (List ℕ)) → (settle n numbers left lent) .refusal ≡ n
+unfolding settle
+settled-refusal zero numbers left lent = refl
+settled-refusal (suc n) numbers left lent = refl
+
+-- A call answers its first refusal.
+pub call-refusal : (tests : List Test) (numbers : List ℕ) (left lent : List (List ℕ))
+    → (call tests numbers left lent) .refusal ≡ first tests
+unfolding call
+call-refusal tests numbers left lent = settled-refusal (first tests) numbers left lent
+
 -- An answer with the first refusal's number, zeros and the buffers as lent is the call's.
 pub refused-is : (tests : List Test) (numbers : List ℕ) (left lent : List (List ℕ)) (n : ℕ) → n ≡ first tests → (n ≡ 0 → ⊥)
     → record { refusal = n; numbers = zeros numbers; buffers = lent } ≡ call tests numbers left lent

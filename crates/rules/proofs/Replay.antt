@@ -1,13 +1,13 @@
 -- Laws of the replay: its end state, what a refused record and a key leave, and what every bank along the way keeps.
 use mathlib.Core.Path.{_≡_, refl, ap, sym, _∙_}
-use mathlib.Core.Bool.{Bool, true, false, cond, not, true≢false}
+use mathlib.Core.Bool.{Bool, true, false, cond}
 use mathlib.Core.List.{List, [], _∷_, _++_, append-assoc}
 use Prim.Native.Nat.{ℕ, zero, suc, _+_, _<_}
 use native.Mathlib.Omega.{arith}
 use native.Mathlib.Decide.{ℕ-discrete, decLt}
 use lib.ListN.{length, getD, set, replicate, take, drop, length-take, List·getD-eq-default, length-replicate, getD-replicate}
 use lib.Seq.{getD-take, getD-drop, getD-set-same, getD-set-other, set-out}
-use borrow.Author.Tests.{eq-eqb}
+use borrow.Author.Tests.{eq-eqb, not-false}
 use Rattle.rules.specs.Tile.{bankSize, mapSize}
 use Rattle.rules.specs.Load.{Store, stored, written}
 use Rattle.rules.specs.Key.{keptCount, Bytes}
@@ -17,6 +17,7 @@ use Rattle.rules.specs.Replay.{laneIn, tileIn, modeIn, offsetIn, sizeIn,
 use Rattle.rules.specs.Replay.{Carried, carried, fresh, countOf, left, outcome, partOf, inFile}
 use Rattle.rules.specs.Replay.{lineIn, onward, replayed, lines, texts}
 use Rattle.rules.proofs.Loads.{length-stored, length-written}
+use Rattle.rules.proofs.Refused.{call-refusal}
 
 -- Records one after the other, whatever a record's outcome is.
 module _ (step : List ℕ → Carried → Outcome) where
@@ -38,15 +39,10 @@ texts-append [] k = refl
 texts-append (x ∷ l) k = ap (λ t. lineText x ++ t) (texts-append l k) ∙ sym (append-assoc (lineText x) (texts l) (texts k))
 
 -- What a record leaves, by its refusal.
-refusal-is : (n : ℕ) (numbers : List ℕ) (l k : List (List ℕ)) → settle n numbers l k .refusal ≡ n
-unfolding settle
-refusal-is zero numbers l k = refl
-refusal-is (suc n) numbers l k = refl
-
 module _ (end : ℕ) (src r : List ℕ) (m : Carried) where
   pub refusal-of : outcome end src r m .refusal ≡ first (recordTests end r)
-  unfolding outcome call
-  refusal-of = refusal-is _ _ _ _
+  unfolding outcome
+  refusal-of = call-refusal (recordTests end r) (countOf r (m .bank) ∷ []) (left src r m) (m .bank ∷ m .map ∷ [])
 
   -- "a refused record changes nothing"
   pub refused-keeps : (outcome end src r m .refusal ≡ 0 → ⊥) → onward (outcome end src r m) ≡ m
@@ -97,12 +93,8 @@ module _ (file : List ℕ) where
       own : List ℕ
       own = partOf r (drop (offsetIn r) file)
 
-      key : (b : Bool) → not b ≡ false → b ≡ true
-      key true e = refl
-      key false e = absurd (true≢false e)
-
       go : Dec (first (recordTests (length file) r) ≡ 0) → onward (outcome (length file) own r m) ≡ m
-      go (yes e) = key-keeps (length file) own r m (key (asksKey r) (rw (eq-eqb _ _ e) at h))
+      go (yes e) = key-keeps (length file) own r m (not-false (asksKey r) (rw (eq-eqb _ _ e) at h))
       go (no e) = refused-keeps (length file) own r m (λ z. e (sym (refusal-of (length file) own r m) ∙ z))
 
   pub end-state : (l : List (List ℕ)) (m : Carried) → replayed (inFile file) l m ≡ replayed (inFile file) (done l m) m

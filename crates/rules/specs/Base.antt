@@ -42,6 +42,11 @@ unfoldable pub any : {A : Type 0} → (A → Bool) → List A → Bool
 any f [] = false
 any f (x ∷ l) = f x || any f l
 
+-- of how many in the list f holds
+unfoldable pub howMany : {A : Type 0} → (A → Bool) → List A → ℕ
+howMany f [] = 0
+howMany f (x ∷ l) = one (f x) + howMany f l
+
 -- the number of addresses below n that are in l
 unfoldable pub distinct : ℕ → List ℕ → ℕ
 distinct zero l = 0

@@ -9,7 +9,7 @@ use Rattle.rules.specs.Refusal.{Test, _if_, Outcome, call}
 use Rattle.rules.specs.Tile.{Tile, bankSize, mapSize, laneMapSize, loadFieldsOutside, tileOutside, modeOutside, laneOutside}
 use Rattle.rules.specs.Texdec.{accepted, stepKnows}
 use Rattle.rules.specs.Sampling.{flag, extentWidth, extentHeight, lookupTexels}
-use Rattle.rules.specs.Load.{Store, loadTile, blockStores, tileStores, tlutStores, stored, written}
+use Rattle.rules.specs.Load.{Store, loadTile, blockStores, tileStores, tlutStores, stored, written, madeUp}
 use Rattle.rules.specs.Reading.{Reading, given, trail, encoded}
 use Rattle.rules.specs.Picture.{plain, lookup}
 use Rattle.rules.specs.Reach.{reachMap, hasLoad, laneMap}
@@ -55,18 +55,21 @@ badPair t mode = 5 if not (accepted mode (t .fmt) (t .siz))
 abbrev pub unknownPair : Tile → ℕ → Test
 unknownPair t mode = 9 if not (stepKnows mode (t .fmt) (t .siz))
 
--- Loads: bank and written map are lent, and the count of stores is answered. The tests of a load's numbers, for a source of `size`
--- bytes, stand before those that a caller may add.
+-- the tests of a lent bank and written map stand before all others of the calls that take both
+abbrev pub lentTests : List ℕ → List ℕ → List Test → List Test
+lentTests bank map l = (1 if notBytes bankSize bank) ∷ (1 if notBytes mapSize map) ∷ l
+
+-- Loads: bank and written map are lent. The count of stores is answered, and how many of their bytes were made up. The tests of a
+-- load's numbers, for a source of `size` bytes, stand before those that a caller may add.
 abbrev pub numberTests : ℕ → Tile → ℕ → Bool → List Test → List Test
 numberTests size t image outside l = (2 if loadFieldsOutside t) ∷ (4 if sourceOutside size image) ∷ (4 if outside) ∷ l
 
 abbrev pub loadTests : List ℕ → List ℕ → List ℕ → Tile → ℕ → Bool → List Test
-loadTests bank map src t image outside =
-    (1 if notBytes bankSize bank) ∷ (1 if notBytes mapSize map) ∷ numberTests (length src) t image outside []
+loadTests bank map src t image outside = lentTests bank map (numberTests (length src) t image outside [])
 
 abbrev pub loaded : List Test → List Store → List ℕ → List ℕ → List ℕ → Outcome
 loaded tests l bank map src =
-    call tests (length l ∷ []) (stored src l bank ∷ written l map ∷ []) (bank ∷ map ∷ [])
+    call tests (length l ∷ madeUp (length src) l ∷ []) (stored src l bank ∷ written l map ∷ []) (bank ∷ map ∷ [])
 
 unfoldable pub blockCall : List ℕ → List ℕ → List ℕ → Tile → ℕ → ℕ → ℕ → Outcome
 blockCall bank map src t image dxt words =

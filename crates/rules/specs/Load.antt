@@ -3,9 +3,9 @@ use mathlib.Core.Bool.{Bool, cond, _&&_, _||_}
 use mathlib.Core.List.{List, [], _∷_, map}
 use Prim.Native.Nat.{ℕ, _+_, _-_, _*_, _/_, _%_, _^_}
 use lib.Bits.{bitAnd, bitXor}
-use lib.Dec.{eqb, ltb}
+use lib.Dec.{eqb, ltb, leb}
 use lib.ListN.{getD, set}
-use Rattle.rules.specs.Base.{tab, concat, marks}
+use Rattle.rules.specs.Base.{tab, concat, howMany, marks}
 use Rattle.rules.specs.Tile.{Tile}
 use Rattle.rules.specs.Sampling.{isRgba32}
 
@@ -167,3 +167,12 @@ addresses l = map (λ s. s .at) l
 
 unfoldable pub written : List Store → List ℕ → List ℕ
 written l m = marks m (addresses l)
+
+-- "the number of stores in the rule's list whose source place is at or past the length. A replicated byte counts each time it is
+-- stored."
+unfoldable pub madeUp : ℕ → List Store → ℕ
+madeUp size l = howMany (λ s. leb size (s .from)) l
+
+-- "Each word load shall also answer how many of its eight bytes came from past the source's end": `from k` is the place of byte k.
+unfoldable pub wordMadeUp : ℕ → (ℕ → ℕ) → ℕ
+wordMadeUp size from = howMany (λ k. leb size (from k)) (tab 8 (λ k. k))

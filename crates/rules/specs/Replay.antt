@@ -6,11 +6,11 @@ use Prim.Native.Nat.{ℕ, suc, _+_, _-_, _*_, _/_}
 use lib.Dec.{eqb, ltb}
 use lib.ListN.{length, getD, take, drop}
 use Rattle.rules.specs.Base.{tab, recordOf, over}
-use Rattle.rules.specs.Tile.{Tile, bankSize, mapSize, freshBank, freshMap}
+use Rattle.rules.specs.Tile.{Tile, freshBank, freshMap}
 use Rattle.rules.specs.Load.{Store, loadTile, blockStores, tileStores, tlutStores, stored, written}
 use Rattle.rules.specs.Key.{keptCount}
 use Rattle.rules.specs.Refusal.{Test, _if_, Outcome, first, call}
-use Rattle.rules.specs.Calls.{notBytes, numberTests, pairTests, unknownPair, blockOutside, tileLoadOutside, tlutOutside}
+use Rattle.rules.specs.Calls.{lentTests, numberTests, pairTests, unknownPair, blockOutside, tileLoadOutside, tlutOutside}
 use Rattle.rules.specs.Lister.{byte, two, recordTile, recordMode, lineText}
 
 -- "records of 48 bytes without a header"
@@ -169,8 +169,7 @@ abbrev pub shortPart : List ℕ → List ℕ → Test
 shortPart part r = 11 if (not (asksKey r) && ltb (length part) (sizeIn r))
 
 abbrev pub replayTests : List ℕ → List ℕ → List ℕ → ℕ → List ℕ → List Test
-replayTests bank map r end part =
-    (1 if notBytes bankSize bank) ∷ (1 if notBytes mapSize map) ∷ recordTests end r ++ (shortPart part r ∷ [])
+replayTests bank map r end part = lentTests bank map (recordTests end r ++ (shortPart part r ∷ []))
 
 unfoldable pub replayCall : List ℕ → List ℕ → List ℕ → ℕ → List ℕ → Outcome
 replayCall bank map r end part =
@@ -214,9 +213,11 @@ ready p (r ∷ l) = cond (atHand p r) (suc (ready p l)) 0
 abbrev pub replayRoom : ℕ
 replayRoom = 22
 
+abbrev pub shortText : List ℕ → List ℕ → Test
+shortText input out = 6 if ltb (length out) (replayRoom * recordCount input)
+
 abbrev pub runTests : List ℕ → List ℕ → List ℕ → List ℕ → List Test
-runTests bank map input out =
-    (1 if notBytes bankSize bank) ∷ (1 if notBytes mapSize map) ∷ (6 if ltb (length out) (replayRoom * recordCount input)) ∷ []
+runTests bank map input out = lentTests bank map (shortText input out ∷ [])
 
 -- The run replays the records that are ready. Their number and the length of their text are answered; bank and map are left as they
 -- stand then, and the text at the front of `out`.

@@ -1,16 +1,17 @@
--- "Banks and texels worked by hand": P1 to P12 in one table, with the fourth slip, the lister's example and a replay beside them.
--- "Fields not named are 0, the bank is fresh." `Rattle.rules.proofs.Worked` proves every row.
+-- "Banks and texels worked by hand": P1 to P12 in one table, with the fourth slip, the lister's example, a replay and what loads make up
+-- beside them. "Fields not named are 0, the bank is fresh." `Rattle.rules.proofs.Worked` proves every row.
 use mathlib.Core.Bool.{Bool, true, false, cond}
-use mathlib.Core.List.{List, [], _∷_, _++_}
+use mathlib.Core.List.{List, [], _∷_, _++_, map}
 use Prim.Native.Nat.{ℕ, _+_}
 use lib.Dec.{eqb}
 use lib.ListN.{set, replicate, take, drop}
 use Rattle.rules.specs.Base.{one, tab, concat}
 use Rattle.rules.specs.Reading.{trail}
-use Rattle.rules.specs.Tile.{Tile, bankSize}
+use Rattle.rules.specs.Tile.{Tile, bankSize, mapSize}
 use Rattle.rules.specs.Texdec.{rgba16Texel, ia4Texel, ia8Texel}
 use Rattle.rules.specs.Sampling.{flag}
-use Rattle.rules.specs.Load.{Store, loadTile, stored, blockStores, tlutStores}
+use Rattle.rules.specs.Load.{Store, loadTile, stored, blockStores, tlutStores, madeUp}
+use Rattle.rules.specs.Calls.{blockCall}
 use Rattle.rules.specs.Picture.{picture, texel}
 use Rattle.rules.specs.Key.{key, keptCount}
 use Rattle.rules.specs.Lister.{listing}
@@ -127,6 +128,20 @@ replayInput =
 abbrev companion : List ℕ
 companion = 1 ∷ 2 ∷ 3 ∷ 9 ∷ []
 
+-- Document 02's item 2. What P5, P6 and P8 make up of a source of so many bytes; P8 with the image size that picks its path.
+abbrev p5MadeUp : ℕ → ℕ
+p5MadeUp size = madeUp size (blockStores (loadTile (tile 0 2 0 0 0 0)) 2 2048 2)
+
+abbrev p6MadeUp : ℕ → ℕ
+p6MadeUp size = madeUp size (blockStores (loadTile (tile 0 3 0 0 0 0)) 3 0 1)
+
+abbrev p8MadeUp : ℕ → ℕ → ℕ
+p8MadeUp image size = madeUp size (tlutStores (loadTile (tile 0 0 0 256 0 0)) image 1 1 0)
+
+-- the numbers that a block load of one word answers whose source has two bytes, one of them zero
+abbrev cutBlock : ℕ → List ℕ
+cutBlock image = blockCall fresh (replicate mapSize 0) (0 ∷ 2 ∷ []) (tile 0 2 0 0 0 0) image 0 1 .numbers
+
 unfoldable pub table : List Case
 table =
     -- P1, P2: entries F801 and 8420
@@ -168,6 +183,15 @@ table =
     ∷ (bytesAt 0 8 (replayed (inFile companion) (recordsIn replayInput) start .bank) gives 2 ∷ 3 ∷ 0 ∷ 0 ∷ 0 ∷ 0 ∷ 0 ∷ 0 ∷ [])
     -- a torn tail alone prints "8 0"
     ∷ (replayText companion (0 ∷ []) gives 56 ∷ 32 ∷ 48 ∷ 10 ∷ [])
+    -- P5's block and P6's, of sources that end before, at and after each one's last byte
+    ∷ (map p5MadeUp (0 ∷ 1 ∷ 8 ∷ 15 ∷ 16 ∷ 17 ∷ []) gives 16 ∷ 15 ∷ 8 ∷ 1 ∷ 0 ∷ 0 ∷ [])
+    ∷ (map p6MadeUp (0 ∷ 3 ∷ 7 ∷ 8 ∷ []) gives 8 ∷ 5 ∷ 1 ∷ 0 ∷ [])
+    -- P8's pair, each byte of it stored four times, by the hardware's load and as a row of entries
+    ∷ (map (p8MadeUp 2) (0 ∷ 1 ∷ 2 ∷ []) gives 8 ∷ 4 ∷ 0 ∷ [])
+    ∷ (map (p8MadeUp 0) (0 ∷ 1 ∷ 2 ∷ []) gives 8 ∷ 4 ∷ 0 ∷ [])
+    -- the call answers both counts, and zeros where it refuses an image size of 4
+    ∷ (cutBlock 2 gives 8 ∷ 6 ∷ [])
+    ∷ (cutBlock 4 gives 0 ∷ 0 ∷ [])
     ∷ []
 
 -- the two lists of every case are the same

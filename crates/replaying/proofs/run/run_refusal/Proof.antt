@@ -1,9 +1,11 @@
 -- `replaying::run::run_refusal` answers the first test that fails. Assumes nothing.
 use native.Mathlib.Omega.{arith}
 use Prim.Native.Nat.{_*_, _<_, _≤_}
+use mathlib.Core.List.{[], _∷_}
 use lib.ListN.{length}
-use Rattle.rules.specs.Replay.{replayRoom, recordCount}
-use Rattle.replaying.proofs.Runs.{run-short-bank, run-short-map, run-short-text, run-whole}
+use Rattle.rules.specs.Replay.{replayRoom, recordCount, shortText}
+use Rattle.rules.proofs.LentTests.{short-bank, short-map}
+use Rattle.replaying.proofs.Runs.{run-short-text, run-whole}
 use borrow.Author.Needs.{needs}
 use Rattle.replaying.proofs.run.run_refusal.Statement.{statement}
 use Rattle.replaying.proofs.run.run_refusal.Tie as tie
@@ -11,12 +13,12 @@ use Rattle.replaying.proofs.run.run_refusal.Tie as tie
 returns : tie.Need-returns
 returns c =
     let a = c .before .before .before .before .before .args in
-    run-short-bank (a .bank .now) (a .written .now) (a .input .now) (a .out .now) (c .if1 .taken)
+    short-bank (a .bank .now) (a .written .now) (shortText (a .input .now) (a .out .now) ∷ []) (c .if1 .taken)
 
 returns-2 : tie.Need-returns-2
 returns-2 c =
     let a = c .before .before .before .before .before .before .args in
-    run-short-map (a .bank .now) (a .written .now) (a .input .now) (a .out .now) (c .before .if1 .left) (c .if2 .taken)
+    short-map (a .bank .now) (a .written .now) (shortText (a .input .now) (a .out .now) ∷ []) (c .before .if1 .left) (c .if2 .taken)
 
 record-count-requires : tie.Need-record-count-requires
 record-count-requires c κs = search needs

@@ -7,7 +7,8 @@ use Rattle.rules.specs.Refusal.{first}
 use Rattle.rules.specs.Replay.{replayTests, replayCall, carried, outcome}
 use Rattle.rules.proofs.Refused.{refused-is}
 use Rattle.rules.proofs.ReplayTests.{call-outcome}
-use Rattle.replaying.proofs.ByTests.{call-lent}
+use Rattle.rules.proofs.LentTests.{lent-passed}
+use Rattle.replaying.proofs.ByTests.{ownTests}
 use Rattle.replaying.proofs.Held.{named-part}
 use borrow.Author.Needs.{needs}
 use Rattle.replaying.proofs.single.replay_record.Statement.{statement}
@@ -44,7 +45,7 @@ replay-step-requires : tie.Need-replay-step-requires
 replay-step-requires c κs =
     let n = c .before .before .before in
     let a = start (n .before) .args in (
-      call-lent (a .bank .now) (a .written .now) (a .bytes .now) (a .end) (a .part .now) (accepted (n .before)),
+      lent-passed (a .bank .now) (a .written .now) (ownTests (a .end) (a .bytes .now) (a .part .now)) (accepted (n .before)) .0,
       rw length-take (omega (arith, n .named .ensures)),
     )
 
