@@ -8,11 +8,12 @@ use lib.ListN.{getD}
 use Rattle.rules.specs.Refusal.{Outcome}
 use Rattle.rules.proofs.Refused.{determined}
 use Rattle.rdp.specs.declared.answer.Answer.{Answer}
+use Rattle.rdp.specs.declared.answer.LoadAnswer.{LoadAnswer}
 use Rattle.rdp.specs.declared.answer.YesAnswer.{YesAnswer}
 use Rattle.rdp.specs.declared.answer.SamplingAnswer.{SamplingAnswer}
 use Rattle.rdp.specs.declared.answer.TextAnswer.{TextAnswer}
 use Rattle.rdp.specs.declared.answer.RunAnswer.{RunAnswer}
-use Rattle.rdp.specs.View.{answered, yesAnswered, samplingAnswered, textAnswered, runAnswered, refusalAnswered}
+use Rattle.rdp.specs.View.{answered, loadAnswered, yesAnswered, samplingAnswered, textAnswered, runAnswered, refusalAnswered}
 
 -- number k of an outcome
 number : ℕ → Outcome → ℕ
@@ -24,6 +25,13 @@ unfolding number
 answered-determined o r s l m p q =
     let e : answered r l ≡ answered s m = determined p q in
     ((λ i. record { refusal = e i .refusal; count = number 0 (e i) }), ap (λ o. o .buffers) e)
+
+pub load-determined : (o : Outcome) (r s : LoadAnswer) (l m : List (List ℕ)) → loadAnswered r l ≡ o → loadAnswered s m ≡ o
+    → (r ≡ s) × (l ≡ m)
+unfolding number
+load-determined o r s l m p q =
+    let e : loadAnswered r l ≡ loadAnswered s m = determined p q in
+    ((λ i. record { refusal = e i .refusal; count = number 0 (e i); «made_up» = number 1 (e i) }), ap (λ o. o .buffers) e)
 
 pub yes-determined : (o : Outcome) (r s : YesAnswer) → yesAnswered r ≡ o → yesAnswered s ≡ o → r ≡ s
 unfolding number

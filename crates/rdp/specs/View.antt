@@ -5,6 +5,7 @@ use Rattle.rules.specs.Tile.{Tile}
 use Rattle.rules.specs.Refusal.{Outcome}
 use Rattle.rdp.specs.declared.tile.TileDescriptor.{TileDescriptor}
 use Rattle.rdp.specs.declared.answer.Answer.{Answer}
+use Rattle.rdp.specs.declared.answer.LoadAnswer.{LoadAnswer}
 use Rattle.rdp.specs.declared.answer.YesAnswer.{YesAnswer}
 use Rattle.rdp.specs.declared.answer.SamplingAnswer.{SamplingAnswer}
 use Rattle.rdp.specs.declared.answer.TextAnswer.{TextAnswer}
@@ -30,6 +31,9 @@ tileOf t =
 -- a call's answer with the lent buffers as it left them
 abbrev pub answered : Answer → List (List ℕ) → Outcome
 answered r left = record { refusal = r .refusal; numbers = r .count ∷ []; buffers = left }
+
+abbrev pub loadAnswered : LoadAnswer → List (List ℕ) → Outcome
+loadAnswered r left = record { refusal = r .refusal; numbers = r .count ∷ r .«made_up» ∷ []; buffers = left }
 
 abbrev pub yesAnswered : YesAnswer → Outcome
 yesAnswered r = record { refusal = r .refusal; numbers = r .yes ∷ []; buffers = [] }

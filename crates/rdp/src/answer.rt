@@ -1,10 +1,18 @@
 // What the public calls answer: a refusal, 0 for none, and the call's numbers, all 0 where it refused.
 
-// A load's count of stores, a picture's count of reads, a key's count of kept bytes.
+// A picture's count of reads, a key's count of kept bytes, a replayed record's count of either.
 #[repr(C)]
 pub struct Answer {
     pub refusal: u32,
     pub count: u32,
+}
+
+// A load's count of stores, and how many of their bytes came from past the source's end.
+#[repr(C)]
+pub struct LoadAnswer {
+    pub refusal: u32,
+    pub count: u32,
+    pub made_up: u32,
 }
 
 // A yes (1) or a no (0).

@@ -2,16 +2,18 @@
 use mathlib.Core.Path.{_≡_, refl, ap, sym, _∙_}
 use mathlib.Core.List.{List, [], _∷_, _++_}
 use Prim.Native.Nat.{ℕ, zero, suc, _+_, _*_, _/_, _<_, _≤_}
-use native.Mathlib.Nat.{mul-le-mul, add-mul, one-mul, zero-mul, suc-mul}
+use native.Mathlib.Nat.{mul-le-mul, zero-mul, suc-mul}
 use native.Mathlib.Numerals.{add-one}
 use native.Mathlib.Omega.{arith}
 use lib.ListN.{length, getD, set, length-append}
 use lib.Seq.{getD-set-other, set-comm}
-use Rattle.rules.specs.Base.{tab, tabFrom, concat, marked, marks}
-use Rattle.rules.specs.Load.{Store, stored, written}
+use Rattle.rules.specs.Base.{tab, tabFrom, concat, howMany, marked, marks}
+use Rattle.rules.specs.Load.{Store, stored, written, madeUp}
 use Rattle.rules.proofs.Tables.{concat-more}
 use Rattle.rules.proofs.Loads.{stored-append, written-append, length-stored, length-written}
-use Rattle.tmem.specs.Part.{Lent, CarriedOut, Counted}
+use Rattle.rules.proofs.MadeUp.{made-up-within, made-up-append}
+use Rattle.tmem.specs.declared.tally.Tally.{Tally}
+use Rattle.tmem.specs.Part.{Lent, CarriedOut, Counted, tallyOf, noTally, plusTally}
 
 module _ {src : List ℕ} {bank map : List ℕ} where
   none : CarriedOut src [] bank map bank map
@@ -90,9 +92,13 @@ module _ {n : ℕ} {f : ℕ → List Store} {src bank map : List ℕ} where
   finish {i} t h = let e : i ≡ n = omega arith in rw e at (t .so-far)
 
 -- The same loop where it counts its stores.
-pub record Counting (n : ℕ) (f : ℕ → List Store) (src bank map : List ℕ) (i : ℕ) (bank′ map′ : List ℕ) (count : ℕ) : Type 0 where
+pub record Counting (n : ℕ) (f : ℕ → List Store) (src bank map : List ℕ) (i : ℕ) (bank′ map′ : List ℕ) (tally : Tally) : Type 0 where
   pub turn : Turn n f src bank map i bank′ map′
-  pub counted : count ≡ length (concat (tab i f))
+  pub counted : tally ≡ tallyOf (length src) (concat (tab i f))
+
+-- lists one after the other have their tallies' sum
+tally-append : (size : ℕ) (l m : List Store) → plusTally (tallyOf size l) (tallyOf size m) ≡ tallyOf size (l ++ m)
+tally-append size l m = λ i. record { count = sym (length-append l m) i; «made_up» = sym (made-up-append size l m) i }
 
 -- n lists of g stores each
 pub table-length : (f : ℕ → List Store) (g : ℕ) → ((i : ℕ) → length (f i) ≡ g) → (n : ℕ) → length (concat (tab n f)) ≡ n * g
@@ -105,39 +111,34 @@ table-length f g e (suc n) =
     ∙ rw (table-length f g e n, e n) (sym (suc-mul n g))
 
 module _ {n : ℕ} {f : ℕ → List Store} {src bank map : List ℕ} where
-  pub begin-count : Lent bank map → Counting n f src bank map 0 bank map 0
-  unfolding tab tabFrom concat
-  begin-count w = record { turn = begin w; counted = refl }
+  pub begin-count : {tally : Tally} → Lent bank map → tally ≡ noTally → Counting n f src bank map 0 bank map tally
+  unfolding tab tabFrom concat madeUp howMany
+  begin-count w e = record { turn = begin w; counted = e }
 
-  pub next-count : {i count r : ℕ} {bank′ map′ bank″ map″ : List ℕ}
-      → Counting n f src bank map i bank′ map′ count
-      → i < n
-      → Counted src (f i) bank′ map′ bank″ map″ r
-      → Counting n f src bank map (i + 1) bank″ map″ (count + r)
-  next-count {i} t h q =
-      record {
-        turn = next (t .turn) h (q .carried);
-        counted = rw (concat-more i f, length-append, t .counted, q .count-is);
-      }
-
-  pub finish-count : {i count : ℕ} {bank′ map′ : List ℕ}
-      → Counting n f src bank map i bank′ map′ count
+  pub finish-count : {i : ℕ} {tally : Tally} {bank′ map′ : List ℕ}
+      → Counting n f src bank map i bank′ map′ tally
       → n ≤ i
-      → Counted src (concat (tab n f)) bank map bank′ map′ count
-  finish-count {i} {count} t h =
+      → Counted src (concat (tab n f)) bank map bank′ map′ tally
+  finish-count {i} t h =
       let e : i ≡ n = omega (arith, t .turn .turns) in
-      record { carried = finish (t .turn) h; count-is = rw e at (t .counted) }
+      record { carried = finish (t .turn) h; tally-is = rw e at (t .counted) }
 
-  -- with the next list's g stores, what is counted stays below a bound of the lists times one of their lengths
-  pub count-within : (g m b : ℕ) {i count r : ℕ} {bank′ map′ : List ℕ}
-      → ((i : ℕ) → length (f i) ≡ g)
-      → n ≤ m
-      → g ≤ b
-      → Counting n f src bank map i bank′ map′ count
-      → i < n
-      → r ≡ g
-      → count + r ≤ m * b
-  count-within g m b {i} {count} e hm hb t h k =
-      let all : count ≡ i * g = t .counted ∙ table-length f g e i in
-      let p : (i + 1) * g ≤ m * b = mul-le-mul (omega arith) hb in
-      omega (arith, add-mul i 1 g, one-mul g)
+  -- the next list
+  module _ {i : ℕ} {tally more : Tally} {bank′ map′ bank″ map″ : List ℕ} (t : Counting n f src bank map i bank′ map′ tally) (h : i < n)
+      (q : Counted src (f i) bank′ map′ bank″ map″ more) where
+    joined : plusTally tally more ≡ tallyOf (length src) (concat (tab (i + 1) f))
+    joined = rw (concat-more i f, t .counted, q .tally-is) (tally-append (length src) (concat (tab i f)) (f i))
+
+    pub next-count : {both : Tally} → both ≡ plusTally tally more → Counting n f src bank map (i + 1) bank″ map″ both
+    next-count e = record { turn = next (t .turn) h (q .carried); counted = e ∙ joined }
+
+    -- what is counted stays below a bound of the lists times one of their lengths, and what is made up is no more
+    pub count-within : (g m b : ℕ) → ((i : ℕ) → length (f i) ≡ g) → n ≤ m → g ≤ b
+        → (tally .count + more .count ≤ m * b) × (tally .«made_up» + more .«made_up» ≤ m * b)
+    count-within g m b e hm hb =
+        let l = concat (tab (i + 1) f) in
+        let few : (i + 1) * g ≤ m * b = mul-le-mul (omega arith) hb in
+        let all : length l ≡ (i + 1) * g = table-length f g e (i + 1) in
+        let count : tally .count + more .count ≡ length l = ap (λ (a : Tally). a .count) joined in
+        let made : tally .«made_up» + more .«made_up» ≡ madeUp (length src) l = ap (λ (a : Tally). a .«made_up») joined in
+        (omega (arith, all, few, count), omega (arith, all, few, made, made-up-within (length src) l))

@@ -1,9 +1,9 @@
 -- The list of four by its places, and bounds of the numbers that make it.
 use mathlib.Core.Path.{_≡_, refl, ap, sym, _∙_}
-use mathlib.Core.Bool.{Bool, true, false}
+use mathlib.Core.Bool.{Bool, true, false, cond, _||_}
 use mathlib.Core.List.{List, [], _∷_}
-use Prim.Native.Nat.{ℕ, zero, suc, _+_, _*_, _/_, _%_, _<_, _≤_}
-use native.Mathlib.Nat.{mul-le-mul}
+use Prim.Native.Nat.{ℕ, zero, suc, _+_, _*_, _/_, _%_, _^_, _<_, _≤_}
+use native.Mathlib.Nat.{mul-le-mul, div-one}
 use native.Mathlib.Decide.{ℕ-discrete}
 use native.Mathlib.Omega.{arith}
 use lib.ListN.{length, getD, set, length-set}
@@ -12,13 +12,30 @@ use lib.Bits.{bitAnd, bitXor, and-high, xor-mod, xor-shr, xor-zero-r}
 use lib.Dec.{eqb, leb, leb→le}
 use mir.Val.{boolByte}
 use borrow.Author.Tests.{eq-eqb, ne-eqb}
-use Rattle.rules.specs.Load.{list4, put, spot}
+use Rattle.rules.specs.Load.{LoadTile, halfword, list4, put, spot}
 use Rattle.rules.proofs.Computed.{all, computed, agree-below}
-use Rattle.tmem.specs.Part.{Spots}
+use Rattle.tmem.specs.Part.{columnShift, Spots}
 
 -- a product of numbers that have bounds
 pub product-within : (m n a b : ℕ) → a ≤ m → b ≤ n → a * b ≤ m * n
 product-within m n a b h k = mul-le-mul h k
+
+-- the shift from a column's number to its halfword's
+pub shift-within : (t : LoadTile) → columnShift t ≤ 2
+shift-within t = go (eqb (t .fmt) 1 || eqb (t .siz) 1) (eqb (t .siz) 0)
+  where
+    go : (a b : Bool) → cond a 1 (cond b 2 0) ≤ 2
+    go true b = omega arith
+    go false true = omega arith
+    go false false = omega arith
+
+pub shifted : (t : LoadTile) (s : ℕ) → s / 2 ^ columnShift t % 2048 ≡ halfword t s
+shifted t s = go (eqb (t .fmt) 1 || eqb (t .siz) 1) (eqb (t .siz) 0)
+  where
+    go : (a b : Bool) → s / 2 ^ cond a 1 (cond b 2 0) % 2048 ≡ cond a (s / 2) (cond b (s / 4) s) % 2048
+    go true b = refl
+    go false true = refl
+    go false false = rw (div-one s)
 
 -- an odd row's xor stays in the word
 record Xored (n o x : ℕ) : Type 0 where

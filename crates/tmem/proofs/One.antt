@@ -3,7 +3,7 @@ use mathlib.Core.Path.{_≡_}
 use mathlib.Core.List.{[], _∷_}
 use denote.Ref.{now}
 use Rattle.rules.proofs.Refused.{determined}
-use Rattle.rdp.proofs.Determined.{answered-determined}
+use Rattle.rdp.proofs.Determined.{load-determined}
 use Rattle.tmem.proofs.bank.Bank.fresh.Reads as fresh
 use Rattle.tmem.proofs.bank.Bank.entry_addr.Reads as entry-addr
 use Rattle.tmem.proofs.load.load.Reads as load
@@ -20,19 +20,19 @@ entry-addr-one w a r s e f p q = λ i. record { 0 = determined p q i }
 
 pub load-one : (w : _) (a : _) (r s : _) (e f : _) → load.Post w a r e → load.Post w a s f
     → (r ≡ s) × (now (e .0) ∷ now (e .1 .0) ∷ [] ≡ now (f .0) ∷ now (f .1 .0) ∷ [])
-load-one w a r s e f p q = answered-determined _ r s _ _ p q
+load-one w a r s e f p q = load-determined _ r s _ _ p q
 
 pub number-refusal-one : (w : _) (a : _) (r s : _) (e f : _) → number-refusal.Post w a r e → number-refusal.Post w a s f → r ≡ s
 number-refusal-one w a r s e f p q = determined p q
 
 pub write-block-for-tile-one : (w : _) (a : _) (r s : _) (e f : _) → write-block-for-tile.Post w a r e → write-block-for-tile.Post w a s f
     → (r ≡ s) × (now (e .0) ∷ now (e .1 .0) ∷ [] ≡ now (f .0) ∷ now (f .1 .0) ∷ [])
-write-block-for-tile-one w a r s e f p q = answered-determined _ r s _ _ p q
+write-block-for-tile-one w a r s e f p q = load-determined _ r s _ _ p q
 
 pub write-tile-for-tile-one : (w : _) (a : _) (r s : _) (e f : _) → write-tile-for-tile.Post w a r e → write-tile-for-tile.Post w a s f
     → (r ≡ s) × (now (e .0) ∷ now (e .1 .0) ∷ [] ≡ now (f .0) ∷ now (f .1 .0) ∷ [])
-write-tile-for-tile-one w a r s e f p q = answered-determined _ r s _ _ p q
+write-tile-for-tile-one w a r s e f p q = load-determined _ r s _ _ p q
 
 pub write-tlut-for-tile-one : (w : _) (a : _) (r s : _) (e f : _) → write-tlut-for-tile.Post w a r e → write-tlut-for-tile.Post w a s f
     → (r ≡ s) × (now (e .0) ∷ now (e .1 .0) ∷ [] ≡ now (f .0) ∷ now (f .1 .0) ∷ [])
-write-tlut-for-tile-one w a r s e f p q = answered-determined _ r s _ _ p q
+write-tlut-for-tile-one w a r s e f p q = load-determined _ r s _ _ p q

@@ -11,7 +11,7 @@ use lib.ListN.{length, getD}
 use Rattle.rules.specs.Base.{tab, tabFrom, concat}
 use Rattle.rules.specs.Load.{Store, store, LoadTile, halfword, base, firstSpot, oddSpot, list4, splits, upper}
 use Rattle.rules.specs.Load.{splitAt, splitStores, wholeStores, wordStores}
-use Rattle.tmem.specs.Part.{Spots, halfStores, CarriedOut}
+use Rattle.tmem.specs.Part.{Spots, halfStores, splitStep, CarriedOut}
 use Rattle.tmem.proofs.Carry.{exchanged}
 use Rattle.tmem.proofs.Indices.{start-below}
 
@@ -38,7 +38,7 @@ split-turn a step l start from j e h p =
 
 -- they are the rule's, where of each four bytes the low half takes the first and the one a step on
 pub split-is : (t : LoadTile) (l : List ℕ) (start : ℕ) (from : ℕ → ℕ)
-    → concat (tab 2 (splitTurn (cond (eqb (t .fmt) 1) 2 1) l start from)) ≡ splitStores t l start from
+    → concat (tab 2 (splitTurn (splitStep t) l start from)) ≡ splitStores t l start from
 unfolding splitStores concat tab tabFrom
 split-is t l start from = go (eqb (t .fmt) 1)
   where

@@ -2,7 +2,7 @@
 use mathlib.Core.Path.{_≡_, ap, sym, _∙_}
 use mathlib.Core.List.{List}
 use Prim.Native.Nat.{ℕ, _+_, _*_, _/_, _%_}
-use native.Mathlib.Nat.{add-zero, add-assoc, mul-assoc, mul-add-mod-self-left}
+use native.Mathlib.Nat.{add-assoc, mul-assoc, mul-add-mod-self-left}
 use native.Mathlib.Omega.{arith}
 use lib.ListN.{length}
 use Rattle.rules.specs.Base.{tab, tabFrom, concat}
@@ -32,10 +32,10 @@ pub entry-at : (t : LoadTile) (stride r i at : ℕ) → at ≡ (8 * t .tmem-addr
 unfolding entryStores
 entry-at t stride r i at e = rw e
 
--- its halfwords, four times the same pair
-abbrev pub entryTurn : ℕ → ℕ → ℕ → List Store
-entryTurn at source k = halfStores (at + 2 * k) source (source + 1)
+-- its halfwords, from a word of eight bytes
+abbrev pub entryTurn : ℕ → ℕ → List Store
+entryTurn at k = halfStores (at + 2 * k) (2 * k) (2 * k + 1)
 
-pub entry-is : (at source : ℕ) → concat (tab 4 (entryTurn at source)) ≡ tab 8 (λ k. store (at + k) (source + k % 2))
+pub entry-is : (at : ℕ) → concat (tab 4 (entryTurn at)) ≡ tab 8 (λ k. store (at + k) k)
 unfolding concat tab tabFrom
-entry-is at source = rw (add-zero source, add-assoc at 0 1, add-assoc at 2 1, add-assoc at 4 1, add-assoc at 6 1)
+entry-is at = rw (add-assoc at 0 1, add-assoc at 2 1, add-assoc at 4 1, add-assoc at 6 1)

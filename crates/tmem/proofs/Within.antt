@@ -5,13 +5,15 @@ use mathlib.Core.List.{List, [], _∷_}
 use Prim.Native.Nat.{ℕ, _≤_}
 use lib.Dec.{ltb}
 use lib.ListN.{length}
-use borrow.Author.Tests.{ltb-false, not-false, eqb-true}
+use borrow.Author.Tests.{ltb-false}
 use Rattle.rules.specs.Tile.{Tile}
 use Rattle.rules.specs.Load.{Store}
 use Rattle.rules.specs.Refusal.{Test, first}
-use Rattle.rules.specs.Calls.{loadTests, loaded, blockOutside, tileLoadOutside, tlutOutside}
+use Rattle.rules.specs.Calls.{numberTests, loadTests, loaded, blockOutside, tileLoadOutside, tlutOutside}
 use Rattle.rules.proofs.Ranges.{neither}
 use Rattle.rules.proofs.Refused.{Passed, numbered, passed, done-is}
+use Rattle.rules.proofs.LentTests.{lent-passed}
+use Rattle.tmem.specs.declared.tally.Tally.{Tally}
 use Rattle.tmem.specs.Part.{Lent, Counted}
 
 -- what the tests leave that all loads share
@@ -25,19 +27,21 @@ pub within : (bank map src : List ℕ) (t : Tile) (image : ℕ) (outside : Bool)
     → Within bank map image outside
 unfolding Passed
 within bank map src t image outside h =
-    let p = passed (loadTests bank map src t image outside) (numbered (loadTests bank map src t image outside) refl) h in
+    let own = numberTests (length src) t image outside [] in
+    let q = lent-passed bank map own h in
+    let p = passed own (numbered own refl) (q .1) in
     record {
-      lent = record { whole-bank = eqb-true _ _ (not-false _ (p .0)); whole-map = eqb-true _ _ (not-false _ (p .1 .0)) };
-      image-in = ltb-false 3 image (neither (ltb 65536 (length src)) (ltb 3 image) (p .1 .1 .1 .0) .1);
-      inside = p .1 .1 .1 .1 .0;
+      lent = record { whole-bank = q .0 .0; whole-map = q .0 .1 };
+      image-in = ltb-false 3 image (neither (ltb 65536 (length src)) (ltb 3 image) (p .1 .0) .1);
+      inside = p .1 .1 .0;
     }
 
 -- and what a load that is carried out then answers and leaves
-pub loaded-done : (tests : List Test) (l : List Store) (src bank map bank′ map′ : List ℕ) (count : ℕ) → first tests ≡ 0
-    → Counted src l bank map bank′ map′ count
-    → record { refusal = 0; numbers = count ∷ []; buffers = bank′ ∷ map′ ∷ [] } ≡ loaded tests l bank map src
-loaded-done tests l src bank map bank′ map′ count z done =
-    rw (done .count-is, done .carried .bank-is, done .carried .map-is) (done-is tests _ _ _ z)
+pub loaded-done : (tests : List Test) (l : List Store) (src bank map bank′ map′ : List ℕ) (tally : Tally) → first tests ≡ 0
+    → Counted src l bank map bank′ map′ tally
+    → record { refusal = 0; numbers = tally .count ∷ tally .«made_up» ∷ []; buffers = bank′ ∷ map′ ∷ [] } ≡ loaded tests l bank map src
+loaded-done tests l src bank map bank′ map′ tally z done =
+    rw (done .tally-is, done .carried .bank-is, done .carried .map-is) (done-is tests _ _ _ z)
 
 -- what each load's own test leaves
 pub block-in : (dxt words : ℕ) → blockOutside dxt words ≡ false → (dxt ≤ 4095) × (words ≤ 2048)

@@ -8,6 +8,7 @@ use crate::load_block::write_block_words;
 use crate::load_tile::write_tile_rows;
 use crate::load_tlut::write_tlut;
 use crate::place::LoadTile;
+use crate::tally::Tally;
 
 pub enum Asked {
     // Words one after the other, whose row advances by dxt 2,048ths a word.
@@ -49,7 +50,7 @@ impl Asked {
         }
     }
 
-    // It is carried out; its count of stores is answered.
+    // It is carried out; its tally of stores is answered.
     pub(crate) fn write(
         self,
         bank: &mut [u8],
@@ -57,7 +58,7 @@ impl Asked {
         src: &[u8],
         tile: LoadTile,
         image_siz: u32,
-    ) -> u32
+    ) -> Tally
         requires { ⌜ Lent (now bank) (now written) ⌝ }
         requires { ⌜ «image_siz» ≤ 3 ⌝ }
         requires { ⌜ askedOutside self ≡ false ⌝ }

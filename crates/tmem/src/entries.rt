@@ -7,7 +7,9 @@ ghost use Rattle.rules.specs.Load.{store, entryRow, rowStores};
 ghost use Rattle.tmem.specs.Part.{loadOf, Lent, Counted};
 use crate::bank::Bank;
 use crate::place::LoadTile;
-use crate::store::store_halfword;
+use crate::source::source_word;
+use crate::store::store_pair;
+use crate::tally::Tally;
 use rdp::units::ByteAddr;
 use rdp::units::WordAddr;
 
@@ -28,28 +30,32 @@ fn entry_addr(tile: LoadTile, row: usize, i: usize) -> ByteAddr
     ByteAddr(entry.bytes().0 & Bank::MASK8)
 }
 
-// An entry's pair of bytes, four times over; it answers its count of stores.
+// An entry's pair of bytes, four times over; it answers its tally of stores.
 fn write_tlut_entry(
     bank: &mut [u8],
     written: &mut [u8],
     src: &[u8],
     at: ByteAddr,
     source: usize,
-) -> u32
+) -> Tally
     requires { ⌜ Lent (now bank) (now written) ⌝ }
     requires { ⌜ (at .0 + 8 ≤ bankSize) × (at .0 % 2 ≡ 0) ⌝ }
     requires { ⌜ source < 1024 * 65536 ⌝ }
     ensures { λ r. ⌜ Counted (now (src .entry)) (tab 8 (λ k. store (at .0 + k) (source + k % 2)))
         (now (bank .entry)) (now (written .entry)) (now (bank .exit)) (now (written .exit)) r ⌝ }
 {
+    let word = source_word(src, source, true);
     for k in 0..4 {
-        let to = at.0 + 2 * k;
-        store_halfword(bank, written, src, ByteAddr(to), source, source + 1);
+        let to = ByteAddr(at.0 + 2 * k);
+        store_pair(bank, written, word.bytes, to, 2 * k, 2 * k + 1);
     }
-    8
+    Tally {
+        count: 8,
+        made_up: word.made_up,
+    }
 }
 
-// The entries of a row; it answers its count of stores.
+// The entries of a row; it answers its tally of stores.
 fn write_tlut_row(
     bank: &mut [u8],
     written: &mut [u8],
@@ -58,7 +64,7 @@ fn write_tlut_row(
     count: usize,
     stride: usize,
     row: usize,
-) -> u32
+) -> Tally
     requires { ⌜ Lent (now bank) (now written) ⌝ }
     requires { ⌜ count ≤ 1024 ⌝ }
     requires { ⌜ stride ≤ 65535 ⌝ }
@@ -66,16 +72,17 @@ fn write_tlut_row(
     ensures { λ r. ⌜ Counted (now (src .entry)) (entryRow (loadOf tile) count stride row)
         (now (bank .entry)) (now (written .entry)) (now (bank .exit)) (now (written .exit)) r ⌝ }
 {
-    let mut stores = 0u32;
+    let mut tally = Tally::none();
     for i in 0..count {
         let at = entry_addr(tile, row, i);
         let source = row * stride + 2 * i;
-        stores = stores + write_tlut_entry(bank, written, src, at, source);
+        let more = write_tlut_entry(bank, written, src, at, source);
+        tally = tally.plus(more);
     }
-    stores
+    tally
 }
 
-// The rows of entries; it answers its count of stores.
+// The rows of entries; it answers its tally of stores.
 pub(crate) fn write_tlut_rows(
     bank: &mut [u8],
     written: &mut [u8],
@@ -84,7 +91,7 @@ pub(crate) fn write_tlut_rows(
     count: usize,
     rows: usize,
     stride: usize,
-) -> u32
+) -> Tally
     requires { ⌜ Lent (now bank) (now written) ⌝ }
     requires { ⌜ count ≤ 1024 ⌝ }
     requires { ⌜ rows ≤ 1024 ⌝ }
@@ -92,9 +99,10 @@ pub(crate) fn write_tlut_rows(
     ensures { λ r. ⌜ Counted (now (src .entry)) (rowStores (loadOf tile) count rows stride)
         (now (bank .entry)) (now (written .entry)) (now (bank .exit)) (now (written .exit)) r ⌝ }
 {
-    let mut stores = 0u32;
+    let mut tally = Tally::none();
     for row in 0..rows {
-        stores = stores + write_tlut_row(bank, written, src, tile, count, stride, row);
+        let more = write_tlut_row(bank, written, src, tile, count, stride, row);
+        tally = tally.plus(more);
     }
-    stores
+    tally
 }

@@ -3,12 +3,12 @@ ghost use mathlib.Core.Path.{_≡_};
 ghost use mathlib.Core.List.{[], _∷_};
 ghost use Rattle.rules.specs.Refusal.{first};
 ghost use Rattle.rules.specs.Calls.{numberTests, loadTests, blockCall, tileCall, tlutCall};
-ghost use Rattle.rdp.specs.View.{tileOf, answered};
+ghost use Rattle.rdp.specs.View.{tileOf, loadAnswered};
 ghost use Rattle.tmem.specs.Asked.{askedOutside, askedCall};
 use crate::asked::Asked;
 use crate::bank::Bank;
 use crate::place::load_fields;
-use rdp::answer::Answer;
+use rdp::answer::LoadAnswer;
 use rdp::refusal;
 use rdp::tile::TileDescriptor;
 
@@ -57,19 +57,24 @@ pub fn load(
     tile: TileDescriptor,
     image_siz: u32,
     asked: Asked,
-) -> Answer
-    ensures { λ r. ⌜ answered r (now (bank .exit) ∷ now (written .exit) ∷ [])
+) -> LoadAnswer
+    ensures { λ r. ⌜ loadAnswered r (now (bank .exit) ∷ now (written .exit) ∷ [])
         ≡ askedCall (now (bank .entry)) (now (written .entry)) (now (src .entry)) (tileOf tile) «image_siz» asked ⌝ }
 {
     let no = load_refusal(bank, written, src, tile, image_siz, asked);
     if no != 0 {
-        return Answer {
+        return LoadAnswer {
             refusal: no,
             count: 0,
+            made_up: 0,
         };
     }
-    let count = asked.write(bank, written, src, load_fields(tile), image_siz);
-    Answer { refusal: 0, count }
+    let done = asked.write(bank, written, src, load_fields(tile), image_siz);
+    LoadAnswer {
+        refusal: 0,
+        count: done.count,
+        made_up: done.made_up,
+    }
 }
 
 // A block of words, whose row advances by dxt 2,048ths a word.
@@ -81,8 +86,8 @@ pub fn write_block_for_tile(
     image_siz: u32,
     dxt: u32,
     word_count: u32,
-) -> Answer
-    ensures { λ r. ⌜ answered r (now (bank .exit) ∷ now (written .exit) ∷ [])
+) -> LoadAnswer
+    ensures { λ r. ⌜ loadAnswered r (now (bank .exit) ∷ now (written .exit) ∷ [])
         ≡ blockCall (now (bank .entry)) (now (written .entry)) (now (src .entry)) (tileOf tile) «image_siz» dxt «word_count» ⌝ }
 {
     let asked = Asked::Block {
@@ -102,8 +107,8 @@ pub fn write_tile_for_tile(
     row_count: u32,
     words_per_row: u32,
     stride: u32,
-) -> Answer
-    ensures { λ r. ⌜ answered r (now (bank .exit) ∷ now (written .exit) ∷ [])
+) -> LoadAnswer
+    ensures { λ r. ⌜ loadAnswered r (now (bank .exit) ∷ now (written .exit) ∷ [])
         ≡ tileCall (now (bank .entry)) (now (written .entry)) (now (src .entry)) (tileOf tile) «image_siz»
         «row_count» «words_per_row» stride ⌝ }
 {
@@ -125,8 +130,8 @@ pub fn write_tlut_for_tile(
     count: u32,
     rows: u32,
     stride: u32,
-) -> Answer
-    ensures { λ r. ⌜ answered r (now (bank .exit) ∷ now (written .exit) ∷ [])
+) -> LoadAnswer
+    ensures { λ r. ⌜ loadAnswered r (now (bank .exit) ∷ now (written .exit) ∷ [])
         ≡ tlutCall (now (bank .entry)) (now (written .entry)) (now (src .entry)) (tileOf tile) «image_siz» count rows stride ⌝ }
 {
     let asked = Asked::Tlut {

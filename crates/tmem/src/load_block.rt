@@ -4,10 +4,11 @@ ghost use Rattle.rules.specs.Load.{blockStores};
 ghost use Rattle.tmem.specs.Part.{loadOf, Lent, Counted};
 use crate::place::LoadTile;
 use crate::place::image_tile;
+use crate::tally::Tally;
 use crate::words::Run;
 use crate::words::write_words;
 
-// The words of a block; it answers its count of stores.
+// The words of a block; it answers its tally of stores.
 pub(crate) fn write_block_words(
     bank: &mut [u8],
     written: &mut [u8],
@@ -16,7 +17,7 @@ pub(crate) fn write_block_words(
     image_siz: u32,
     dxt: usize,
     words: usize,
-) -> u32
+) -> Tally
     requires { ⌜ Lent (now bank) (now written) ⌝ }
     requires { ⌜ «image_siz» ≤ 3 ⌝ }
     requires { ⌜ dxt ≤ 4095 ⌝ }

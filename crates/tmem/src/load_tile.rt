@@ -4,10 +4,11 @@ ghost use Rattle.rules.specs.Load.{tileRow, tileStores};
 ghost use Rattle.tmem.specs.Part.{loadOf, Lent, Counted};
 use crate::place::LoadTile;
 use crate::place::image_tile;
+use crate::tally::Tally;
 use crate::words::Run;
 use crate::words::write_words;
 
-// The words of a row; it answers its count of stores.
+// The words of a row; it answers its tally of stores.
 fn write_tile_row(
     bank: &mut [u8],
     written: &mut [u8],
@@ -17,7 +18,7 @@ fn write_tile_row(
     words: usize,
     stride: usize,
     row: usize,
-) -> u32
+) -> Tally
     requires { ⌜ Lent (now bank) (now written) ⌝ }
     requires { ⌜ «image_siz» ≤ 3 ⌝ }
     requires { ⌜ words ≤ 512 ⌝ }
@@ -31,7 +32,7 @@ fn write_tile_row(
     write_words(bank, written, src, image, run, words)
 }
 
-// The rows of a tile; it answers its count of stores.
+// The rows of a tile; it answers its tally of stores.
 pub(crate) fn write_tile_rows(
     bank: &mut [u8],
     written: &mut [u8],
@@ -41,7 +42,7 @@ pub(crate) fn write_tile_rows(
     rows: usize,
     words: usize,
     stride: usize,
-) -> u32
+) -> Tally
     requires { ⌜ Lent (now bank) (now written) ⌝ }
     requires { ⌜ «image_siz» ≤ 3 ⌝ }
     requires { ⌜ rows ≤ 1024 ⌝ }
@@ -50,9 +51,10 @@ pub(crate) fn write_tile_rows(
     ensures { λ r. ⌜ Counted (now (src .entry)) (tileStores (loadOf tile) «image_siz» rows words stride)
         (now (bank .entry)) (now (written .entry)) (now (bank .exit)) (now (written .exit)) r ⌝ }
 {
-    let mut count = 0u32;
+    let mut tally = Tally::none();
     for row in 0..rows {
-        count = count + write_tile_row(bank, written, src, tile, image_siz, words, stride, row);
+        let more = write_tile_row(bank, written, src, tile, image_siz, words, stride, row);
+        tally = tally.plus(more);
     }
-    count
+    tally
 }

@@ -5,6 +5,7 @@ ghost use Rattle.rules.specs.Load.{entries, advance, steps, hardwareStores, tlu
 ghost use Rattle.tmem.specs.Part.{loadOf, Lent, Counted};
 use crate::entries::write_tlut_rows;
 use crate::place::LoadTile;
+use crate::tally::Tally;
 use crate::words::Run;
 use crate::words::write_words;
 
@@ -37,7 +38,7 @@ fn tlut_advance(image_siz: u32) -> usize
     if image_siz == 2 { 2 } else { 8 }
 }
 
-// The hardware's load, a word for each step; it answers its count of stores.
+// The hardware's load, a word for each step; it answers its tally of stores.
 fn write_tlut_words(
     bank: &mut [u8],
     written: &mut [u8],
@@ -45,7 +46,7 @@ fn write_tlut_words(
     tile: LoadTile,
     image_siz: u32,
     count: usize,
-) -> u32
+) -> Tally
     requires { ⌜ Lent (now bank) (now written) ⌝ }
     requires { ⌜ «image_siz» ≤ 3 ⌝ }
     requires { ⌜ count ≤ 1024 ⌝ }
@@ -76,7 +77,7 @@ pub(crate) fn write_tlut(
     count: usize,
     rows: usize,
     stride: usize,
-) -> u32
+) -> Tally
     requires { ⌜ Lent (now bank) (now written) ⌝ }
     requires { ⌜ «image_siz» ≤ 3 ⌝ }
     requires { ⌜ count ≤ 1024 ⌝ }

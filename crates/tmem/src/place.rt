@@ -5,7 +5,7 @@ ghost use lib.ListN.{getD};
 ghost use Rattle.rules.specs.Tile.{bankWords};
 ghost use Rattle.rules.specs.Load.{loadTile, imageTile, halfword, base, firstSpot, list4};
 ghost use Rattle.rdp.specs.View.{tileOf};
-ghost use Rattle.tmem.specs.Part.{loadOf, Spots};
+ghost use Rattle.tmem.specs.Part.{loadOf, columnShift, Spots};
 use crate::halfword::Halfword;
 use rdp::tile::TileDescriptor;
 use rdp::units::LineWords;
@@ -50,17 +50,24 @@ pub(crate) fn image_tile(tile: LoadTile, image_siz: u32) -> LoadTile
     tile
 }
 
+// By how many bits a column's number is shifted to its halfword's.
+fn column_shift(tile: LoadTile) -> u32
+    ensures { λ r. ⌜ r ≡ columnShift (loadOf tile) ⌝ }
+{
+    if (tile.fmt == 1) | (tile.siz == 1) {
+        1
+    } else if tile.siz == 0 {
+        2
+    } else {
+        0
+    }
+}
+
 // The halfword at which column s starts, in its line.
 pub(crate) fn column_halfword(tile: LoadTile, s: usize) -> Halfword
     ensures { λ r. ⌜ r .0 ≡ halfword (loadOf tile) s ⌝ }
 {
-    if (tile.fmt == 1) | (tile.siz == 1) {
-        Halfword(s / 2 % Halfword::COUNT)
-    } else if tile.siz == 0 {
-        Halfword(s / 4 % Halfword::COUNT)
-    } else {
-        Halfword(s % Halfword::COUNT)
-    }
+    Halfword((s >> column_shift(tile)) % Halfword::COUNT)
 }
 
 // The word at which row t starts: the rule's, wrapped at the bank's end.

@@ -4,6 +4,7 @@ ghost use Prim.Native.Nat.{_<_, _≤_, _^_};
 ghost use Rattle.tmem.specs.Part.{loadOf, Lent, Counted};
 ghost use Rattle.tmem.specs.Run.{Paced, imageRun, wordAt, runStores};
 use crate::place::LoadTile;
+use crate::tally::Tally;
 use crate::word::write_load_word;
 
 // How a run goes on from word to word.
@@ -64,7 +65,7 @@ impl Run {
     }
 }
 
-// The words of a run, one after the other; it answers its count of stores.
+// The words of a run, one after the other; it answers its tally of stores.
 pub(crate) fn write_words(
     bank: &mut [u8],
     written: &mut [u8],
@@ -72,27 +73,27 @@ pub(crate) fn write_words(
     tile: LoadTile,
     run: Run,
     words: usize,
-) -> u32
+) -> Tally
     requires { ⌜ Lent (now bank) (now written) ⌝ }
     requires { ⌜ Paced run ⌝ }
     requires { ⌜ words ≤ 2048 ⌝ }
     ensures { λ r. ⌜ Counted (now (src .entry)) (runStores (loadOf tile) run words)
         (now (bank .entry)) (now (written .entry)) (now (bank .exit)) (now (written .exit)) r ⌝ }
 {
-    let mut count = 0u32;
+    let mut tally = Tally::none();
     for word in 0..words {
         let at = run.word(word);
-        count = count
-            + write_load_word(
-                bank,
-                written,
-                src,
-                tile,
-                at.s,
-                at.t,
-                at.source,
-                run.replicate,
-            );
+        let more = write_load_word(
+            bank,
+            written,
+            src,
+            tile,
+            at.s,
+            at.t,
+            at.source,
+            run.replicate,
+        );
+        tally = tally.plus(more);
     }
-    count
+    tally
 }

@@ -1,8 +1,8 @@
--- `tmem::store::source_byte` reads the byte, and 0 where the list has none. Assumes nothing.
+-- `tmem::source::source_byte` reads the byte, and 0 where the list has none. Assumes nothing.
 use lib.ListN.{List·getD-eq-default}
 use borrow.Author.Needs.{needs}
-use Rattle.tmem.proofs.store.source_byte.Statement.{statement}
-use Rattle.tmem.proofs.store.source_byte.Tie as tie
+use Rattle.tmem.proofs.source.source_byte.Statement.{statement}
+use Rattle.tmem.proofs.source.source_byte.Tie as tie
 
 shared-slice-read-result : tie.Need-shared-slice-read-result
 shared-slice-read-result c = search needs

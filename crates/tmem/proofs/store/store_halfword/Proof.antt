@@ -1,20 +1,15 @@
 -- `tmem::store::store_halfword` carries out its two stores: two bytes of the bank, and their marks. Assumes nothing.
+use borrow.Author.Needs.{needs}
+use mathlib.Core.Path.{refl}
 use native.Mathlib.Omega.{arith}
 use lib.ListN.{length-set}
 use Rattle.rules.specs.Base.{marks}
 use Rattle.rules.specs.Load.{stored, written}
-use borrow.Author.Needs.{needs}
 use Rattle.tmem.proofs.store.store_halfword.Statement.{statement}
 use Rattle.tmem.proofs.store.store_halfword.Tie as tie
 
-source-byte-requires : tie.Need-source-byte-requires
-source-byte-requires c κs = search needs
-
 slice-write-bank : tie.Need-slice-write-bank
 slice-write-bank c = search needs
-
-source-byte-requires-2 : tie.Need-source-byte-requires-2
-source-byte-requires-2 c κs = search needs
 
 add-bank : tie.Need-add-bank
 add-bank c = search needs
@@ -33,20 +28,13 @@ same-length-2 c = search needs
 
 returns : tie.Need-returns
 unfolding stored written marks
-returns c =
-    let second = c .before .before .before .before in
-    record {
-      bank-is = rw (second .source-byte2 .ensures, second .before .source-byte .ensures);
-      map-is = c .before .before .mark-in .ensures;
-    }
+returns c = record { bank-is = refl; map-is = c .before .before .mark-in .ensures }
 
 pub store-halfword-spec : {M : Type 1} → statement M
 store-halfword-spec =
     tie.close
     (tie.spec
-    source-byte-requires
     slice-write-bank
-    source-byte-requires-2
     add-bank
     slice-write-bank-2
     mark-in-requires

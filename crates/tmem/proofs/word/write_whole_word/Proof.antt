@@ -1,33 +1,25 @@
 -- `tmem::word::write_whole_word` carries out two stores at each of the four places. Assumes nothing.
-use Prim.Native.Nat.{_-_, _<_}
+use Prim.Native.Nat.{_-_}
 use native.Mathlib.Omega.{arith}
-use lib.Bits.{bitXor, xor-lt}
 use Rattle.rules.specs.Load.{list4, upper, wholeStores}
-use Rattle.tmem.specs.Part.{placeOf}
+use Rattle.tmem.specs.Part.{bytesIn}
 use Rattle.tmem.proofs.Carry.{Turn, begin, next, finish}
 use Rattle.tmem.proofs.Places.{wholeTurn}
 use Rattle.tmem.proofs.word.write_whole_word.Statement.{statement}
 use Rattle.tmem.proofs.word.write_whole_word.Tie as tie
 
 abbrev Inv-loop : tie.InvT-loop
-Inv-loop bank₀ written₀ src first odd source replicate k₀ bank written k =
-    Turn 4 (wholeTurn (list4 (first .0) odd) (upper (first .0)) odd (placeOf source replicate)) src bank₀ written₀ k bank written
+Inv-loop bank₀ written₀ word first odd k₀ bank written k =
+    Turn 4 (wholeTurn (list4 (first .0) odd) (upper (first .0)) odd (λ k. k)) (bytesIn word) bank₀ written₀ k bank written
 
 abbrev μ-loop : tie.MeasureT-loop
-μ-loop bank₀ written₀ src first odd source replicate k₀ bank written k = 4 - k
-
--- byte 2 (k xor o) is one of the word
-byte-within : (c : tie.In-loop Inv-loop μ-loop)
-    → bitXor (c .before .loop .k) (c .before .before .before .before .before .args .odd) < 4
-byte-within c =
-    let s = c .before .before .before .before .before in
-    xor-lt 2 (c .before .loop .k) (s .args .odd) (omega arith) (omega (arith, s .pre .1 .0 .odd-in))
+μ-loop bank₀ written₀ word first odd k₀ bank written k = 4 - k
 
 loop-holds : tie.Need-loop-holds Inv-loop μ-loop
-loop-holds c = begin (c .before .before .before .pre .0)
+loop-holds c = begin (c .before .before .pre .0)
 
 place-halfword-requires : tie.Need-place-halfword-requires Inv-loop μ-loop
-place-halfword-requires c κs = (c .before .before .before .before .before .pre .1 .0, omega arith)
+place-halfword-requires c κs = (c .before .before .before .before .pre .1, omega arith)
 
 lower-byte-requires : tie.Need-lower-byte-requires Inv-loop μ-loop
 lower-byte-requires c κs = c .place-halfword .ensures .1
@@ -35,23 +27,18 @@ lower-byte-requires c κs = c .place-halfword .ensures .1
 half-start-requires : tie.Need-half-start-requires Inv-loop μ-loop
 half-start-requires c κs = tt
 
-add-byte : tie.Need-add-byte Inv-loop μ-loop
-add-byte c = omega arith
+add-t12 : tie.Need-add-t12 Inv-loop μ-loop
+add-t12 c = omega arith
 
-mul-byte : tie.Need-mul-byte Inv-loop μ-loop
-mul-byte c = omega (arith, byte-within (c .before .before .before .before .before))
-
-add-store-pair : tie.Need-add-store-pair Inv-loop μ-loop
-add-store-pair c = omega (arith, byte-within (c .before .before .before .before .before .before .before))
-
-store-pair-requires : tie.Need-store-pair-requires Inv-loop μ-loop
-store-pair-requires c κs =
+write-whole-place-requires : tie.Need-write-whole-place-requires Inv-loop μ-loop
+write-whole-place-requires c κs =
     let h = c .before .before .before .before in
     let l = h .before .before .before in
+    let spots = l .before .before .before .before .pre .1 in
     let low = h .before .lower-byte .ensures in
     let half = h .half-start .ensures in (
       l .before .loop .inv .lent,
-      ((omega (arith, low, half), omega (arith, low, half)), (omega arith, (omega (arith, byte-within l), omega (arith, byte-within l)))),
+      ((omega (arith, low, half), omega (arith, low, half)), ((spots .odd-in, spots .odd-even), omega arith)),
     )
 
 add-k : tie.Need-add-k Inv-loop μ-loop
@@ -67,7 +54,7 @@ loop-again c =
     let p = h .before .before in
     let l = p .before in
     next (l .before .loop .inv) (l .loop-test .taken)
-    (rw (h .before .lower-byte .ensures, p .place-halfword .ensures .0, h .half-start .ensures .0) at (d .store-pair .ensures))
+    (rw (h .before .lower-byte .ensures, p .place-halfword .ensures .0, h .half-start .ensures .0) at (d .write-whole-place .ensures))
 
 same-length : tie.Need-same-length Inv-loop μ-loop
 same-length c = omega arith
@@ -89,10 +76,8 @@ write-whole-word-spec =
     place-halfword-requires
     lower-byte-requires
     half-start-requires
-    add-byte
-    mul-byte
-    add-store-pair
-    store-pair-requires
+    add-t12
+    write-whole-place-requires
     add-k
     loop-less
     loop-again

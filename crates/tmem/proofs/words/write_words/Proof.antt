@@ -1,5 +1,4 @@
 -- `tmem::words::write_words` carries out the words of a run, one after the other. Assumes nothing.
-use mathlib.Core.Path.{_∙_}
 use Prim.Native.Nat.{_-_, _<_}
 use native.Mathlib.Omega.{arith}
 use Rattle.tmem.specs.Part.{loadOf}
@@ -10,20 +9,23 @@ use Rattle.tmem.proofs.words.write_words.Statement.{statement}
 use Rattle.tmem.proofs.words.write_words.Tie as tie
 
 abbrev Inv-loop : tie.InvT-loop
-Inv-loop bank₀ written₀ src tile run words count₀ word₀ bank written count word =
-    Counting words (runWord (loadOf tile) run) src bank₀ written₀ word bank written count
+Inv-loop bank₀ written₀ src tile run words tally₀ word₀ bank written tally word =
+    Counting words (runWord (loadOf tile) run) src bank₀ written₀ word bank written tally
 
 abbrev μ-loop : tie.MeasureT-loop
-μ-loop bank₀ written₀ src tile run words count₀ word₀ bank written count word = words - word
+μ-loop bank₀ written₀ src tile run words tally₀ word₀ bank written tally word = words - word
 
 word-below : (c : tie.In-loop Inv-loop μ-loop) → c .before .loop .word < 2048
-word-below c = omega (arith, c .before .before .before .before .before)
+word-below c = omega (arith, c .before .before .before .before .before .before)
+
+none-requires : tie.Need-none-requires Inv-loop μ-loop
+none-requires c κs = tt
 
 loop-holds : tie.Need-loop-holds Inv-loop μ-loop
-loop-holds c = begin-count (c .before .before .before .pre .0)
+loop-holds c = begin-count (c .before .before .before .before .pre .0) (c .none .ensures)
 
 word-requires : tie.Need-word-requires Inv-loop μ-loop
-word-requires c κs = (c .before .before .before .before .before .pre .1 .0, omega (arith, word-below c))
+word-requires c κs = (c .before .before .before .before .before .before .pre .1 .0, omega (arith, word-below c))
 
 write-load-word-requires : tie.Need-write-load-word-requires Inv-loop μ-loop
 write-load-word-requires c κs =
@@ -31,25 +33,28 @@ write-load-word-requires c κs =
     let d = e .before in
     (d .before .loop .inv .turn .lent, e .word .ensures .1)
 
-add-count : tie.Need-add-count Inv-loop μ-loop
-add-count c =
+plus-requires : tie.Need-plus-requires Inv-loop μ-loop
+plus-requires c κs =
     let d = c .before .before .before .before in
-    let l = d .before .before .before .before in
-    let few = count-within 8 2048 8 (λ w. word-length _ _ _ _) (l .before .before .before .before .before .pre .1 .1) (omega arith) in
-    omega (arith, few (l .before .loop .inv) (l .loop-test .taken) (d .write-load-word .ensures .count-is ∙ word-length _ _ _ _))
+    let e = d .before .before .before in
+    let l = e .before in
+    let word = rw (e .word .ensures .0) at (d .write-load-word .ensures) in
+    let most = l .before .before .before .before .before .before .pre .1 .1 in
+    let few = count-within (l .before .loop .inv) (l .loop-test .taken) word 8 2048 8 (λ w. word-length _ _ _ _) most (omega arith) in
+    (omega (arith, few .0), omega (arith, few .1))
 
 add-word : tie.Need-add-word Inv-loop μ-loop
-add-word c = let d = c .before .before .before .before in omega (arith, word-below (d .before .before .before .before))
+add-word c = let d = c .before .before .before .before .before in omega (arith, word-below (d .before .before .before .before))
 
 loop-less : tie.Need-loop-less Inv-loop μ-loop
 loop-less c = omega arith
 
 loop-again : tie.Need-loop-again Inv-loop μ-loop
 loop-again c =
-    let d = c .before .before .before .before in
+    let d = c .before .before .before .before .before in
     let e = d .before .before .before in
     let l = e .before in
-    next-count (l .before .loop .inv) (l .loop-test .taken) (rw (e .word .ensures .0) at (d .write-load-word .ensures))
+    next-count (l .before .loop .inv) (l .loop-test .taken) (rw (e .word .ensures .0) at (d .write-load-word .ensures)) (c .plus .ensures)
 
 same-length : tie.Need-same-length Inv-loop μ-loop
 same-length c = omega arith
@@ -67,10 +72,11 @@ write-words-spec =
     (tie.spec
     Inv-loop
     μ-loop
+    none-requires
     loop-holds
     word-requires
     write-load-word-requires
-    add-count
+    plus-requires
     add-word
     loop-less
     loop-again
