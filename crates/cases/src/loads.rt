@@ -1,10 +1,10 @@
-// Loads: `b` a block, `t` a tile, `c` a lookup table. The output is name, refusal, count, the weights of bank and written map after
-// the load, and eight bytes of the bank.
+// Loads: `b` a block, `t` a tile, `c` a lookup table. The output is name, refusal, count, made-up count, the weights of bank and
+// written map after the load, and eight bytes of the bank.
 use crate::buffers;
 use crate::line;
 use crate::line::OWN;
 use crate::show;
-use rdp::answer::Answer;
+use rdp::answer::LoadAnswer;
 use tmem::bank::Bank;
 use tmem::load::write_block_for_tile;
 use tmem::load::write_tile_for_tile;
@@ -35,7 +35,7 @@ const LENT: usize = OWN + 9;
 
 const SHOWN: usize = OWN + 10;
 
-fn load(case: &[u8], bank: &mut [u8], map: &mut [u8], src: &[u8]) -> Answer {
+fn load(case: &[u8], bank: &mut [u8], map: &mut [u8], src: &[u8]) -> LoadAnswer {
     let tile = line::tile(case);
     let image = line::number(case, IMAGE);
     let a = line::number(case, A);
@@ -71,7 +71,7 @@ fn load_into(case: &[u8], bank: &mut [u8], map: &mut [u8], src: &[u8]) {
     let map_len = line::part(case, MAP, map.len());
     let answer = load(case, &mut bank[0..bank_len], &mut map[0..map_len], src);
     show::name(case);
-    show::answer(answer);
+    show::load_answer(answer);
     show::number(weight(bank));
     show::number(weight(map));
     show::text(b":");

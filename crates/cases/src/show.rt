@@ -3,6 +3,7 @@ ghost use Prim.Native.Nat.{_<_, _≤_, _^_};
 use crate::line;
 use libc::STDOUT_FILENO;
 use rdp::answer::Answer;
+use rdp::answer::LoadAnswer;
 
 pub(crate) fn text(text: &[u8]) {
     io::write_all(STDOUT_FILENO, text);
@@ -24,6 +25,12 @@ pub(crate) fn name(case: &[u8]) {
 pub(crate) fn answer(answer: Answer) {
     number(answer.refusal as u64);
     number(answer.count as u64);
+}
+
+pub(crate) fn load_answer(answer: LoadAnswer) {
+    number(answer.refusal as u64);
+    number(answer.count as u64);
+    number(answer.made_up as u64);
 }
 
 // One byte more of a weight.

@@ -9,7 +9,7 @@ ghost use Rattle.rules.specs.Key.{keptCount};
 ghost use Rattle.rules.specs.Refusal.{first};
 ghost use Rattle.rules.specs.Replay.{replaySize, laneIn, tileIn, modeIn, imageIn, sizeIn, storesIn, outsideIn, carried, outcome};
 ghost use Rattle.rdp.specs.View.{answered};
-ghost use Rattle.tmem.specs.Part.{Counted};
+ghost use Rattle.tmem.specs.Part.{CarriedOut};
 use crate::fields::asked_in;
 use crate::fields::asks_key;
 use crate::fields::image_in;
@@ -47,8 +47,9 @@ fn carry_out(bank: &mut [u8], written: &mut [u8], bytes: &[u8], src: &[u8]) -> u
     requires { ⌜ (length (now bank) ≡ bankSize) × (length (now written) ≡ mapSize) ⌝ }
     requires { ⌜ replaySize ≤ length (now bytes) ⌝ }
     requires { ⌜ first (numberTests (length (now src)) (tileIn (now bytes)) (imageIn (now bytes)) (outsideIn (now bytes)) []) ≡ 0 ⌝ }
-    ensures { λ r. ⌜ Counted (now (src .entry)) (storesIn (now (bytes .entry))) (now (bank .entry)) (now (written .entry))
-        (now (bank .exit)) (now (written .exit)) r ⌝ }
+    ensures { λ r. ⌜ r ≡ length (storesIn (now (bytes .entry))) ⌝ }
+    ensures { λ _. ⌜ CarriedOut (now (src .entry)) (storesIn (now (bytes .entry))) (now (bank .entry)) (now (written .entry))
+        (now (bank .exit)) (now (written .exit)) ⌝ }
 {
     let done = load(
         bank,

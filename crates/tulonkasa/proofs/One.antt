@@ -2,7 +2,7 @@
 use mathlib.Core.Path.{_≡_}
 use mathlib.Core.List.{[], _∷_}
 use denote.Ref.{now}
-use Rattle.rdp.proofs.Determined.{answered-determined, refusal-determined, sampling-determined, yes-determined}
+use Rattle.rdp.proofs.Determined.{answered-determined, load-determined, refusal-determined, sampling-determined, yes-determined}
 use Rattle.tulonkasa.proofs.keys.tk_key.Reads as tk-key
 use Rattle.tulonkasa.proofs.loads.tk_load_block.Reads as tk-load-block
 use Rattle.tulonkasa.proofs.loads.tk_load_tile.Reads as tk-load-tile
@@ -23,15 +23,15 @@ tk-key-one w a r s e f p q = answered-determined _ r s _ _ p q
 
 pub tk-load-block-one : (w : _) (a : _) (r s : _) (e f : _) → tk-load-block.Post w a r e → tk-load-block.Post w a s f
     → (r ≡ s) × (now (e .0) ∷ now (e .1 .0) ∷ [] ≡ now (f .0) ∷ now (f .1 .0) ∷ [])
-tk-load-block-one w a r s e f p q = answered-determined _ r s _ _ p q
+tk-load-block-one w a r s e f p q = load-determined _ r s _ _ p q
 
 pub tk-load-tile-one : (w : _) (a : _) (r s : _) (e f : _) → tk-load-tile.Post w a r e → tk-load-tile.Post w a s f
     → (r ≡ s) × (now (e .0) ∷ now (e .1 .0) ∷ [] ≡ now (f .0) ∷ now (f .1 .0) ∷ [])
-tk-load-tile-one w a r s e f p q = answered-determined _ r s _ _ p q
+tk-load-tile-one w a r s e f p q = load-determined _ r s _ _ p q
 
 pub tk-load-tlut-one : (w : _) (a : _) (r s : _) (e f : _) → tk-load-tlut.Post w a r e → tk-load-tlut.Post w a s f
     → (r ≡ s) × (now (e .0) ∷ now (e .1 .0) ∷ [] ≡ now (f .0) ∷ now (f .1 .0) ∷ [])
-tk-load-tlut-one w a r s e f p q = answered-determined _ r s _ _ p q
+tk-load-tlut-one w a r s e f p q = load-determined _ r s _ _ p q
 
 pub tk-reach-one : (w : _) (a : _) (r s : _) (e f : _) → tk-reach.Post w a r e → tk-reach.Post w a s f
     → (r ≡ s) × (now (e .1 .1 .1 .1 .1 .1 .1 .1 .1 .1 .1 .1 .0) ∷ [] ≡ now (f .1 .1 .1 .1 .1 .1 .1 .1 .1 .1 .1 .1 .0) ∷ [])

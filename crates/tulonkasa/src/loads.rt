@@ -2,12 +2,12 @@
 ghost use mathlib.Core.Path.{_≡_};
 ghost use mathlib.Core.List.{[], _∷_};
 ghost use Rattle.rules.specs.Calls.{blockCall, tileCall, tlutCall};
-ghost use Rattle.rdp.specs.View.{answered};
+ghost use Rattle.rdp.specs.View.{loadAnswered};
 ghost use Rattle.rules.specs.Tile.{loadTileFrom};
 use crate::tile::load_tile_from;
-use rdp::answer::Answer;
+use rdp::answer::LoadAnswer;
 
-// A block load; the count of stores is answered.
+// A block load; the count of stores is answered, and how many of their bytes came from past the source's end.
 #[no_mangle]
 pub extern "C" fn tk_load_block(
     bank: &mut [u8],
@@ -20,8 +20,8 @@ pub extern "C" fn tk_load_block(
     image_siz: u32,
     dxt: u32,
     words: u32,
-) -> Answer
-    ensures { λ r. ⌜ answered r (now (bank .exit) ∷ now (written .exit) ∷ [])
+) -> LoadAnswer
+    ensures { λ r. ⌜ loadAnswered r (now (bank .exit) ∷ now (written .exit) ∷ [])
         ≡ blockCall (now (bank .entry)) (now (written .entry)) (now (source .entry))
         (loadTileFrom fmt siz line «tmem_addr») «image_siz» dxt words ⌝ }
 {
@@ -43,8 +43,8 @@ pub extern "C" fn tk_load_tile(
     rows: u32,
     words: u32,
     stride: u32,
-) -> Answer
-    ensures { λ r. ⌜ answered r (now (bank .exit) ∷ now (written .exit) ∷ [])
+) -> LoadAnswer
+    ensures { λ r. ⌜ loadAnswered r (now (bank .exit) ∷ now (written .exit) ∷ [])
         ≡ tileCall (now (bank .entry)) (now (written .entry)) (now (source .entry))
         (loadTileFrom fmt siz line «tmem_addr») «image_siz» rows words stride ⌝ }
 {
@@ -66,8 +66,8 @@ pub extern "C" fn tk_load_tlut(
     count: u32,
     rows: u32,
     stride: u32,
-) -> Answer
-    ensures { λ r. ⌜ answered r (now (bank .exit) ∷ now (written .exit) ∷ [])
+) -> LoadAnswer
+    ensures { λ r. ⌜ loadAnswered r (now (bank .exit) ∷ now (written .exit) ∷ [])
         ≡ tlutCall (now (bank .entry)) (now (written .entry)) (now (source .entry))
         (loadTileFrom fmt siz line «tmem_addr») «image_siz» count rows stride ⌝ }
 {

@@ -78,7 +78,7 @@ returns-3 c =
     let a = start (k .before) .args in
     let done = d .carry-out .ensures in
     load-done (a .end) (a .bytes .now) (accepted (k .before)) (a .src .now) (a .bank .now) (a .written .now) _ _ _
-    (sym (k .asks-key .ensures) ∙ e .if2 .left) (done .count-is) (done .carried .bank-is) (done .carried .map-is)
+    (sym (k .asks-key .ensures) ∙ e .if2 .left) (done .0) (done .1 .bank-is) (done .1 .map-is)
 
 pub replay-step-spec : {M : Type 1} → statement M
 replay-step-spec =
