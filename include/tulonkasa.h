@@ -60,11 +60,21 @@ enum {
 
 /* ---- Answers -------------------------------------------------------------------------------------------------------- */
 
-/* count: a load's stores, a picture's reads, or a key's kept bytes */
+/* count: a picture's reads, or a key's kept bytes; of a replayed record its load's stores, or its key's kept bytes */
 typedef struct tk_answer {
     uint32_t refusal;
     uint32_t count;
 } tk_answer;
+
+/* count: a load's stores. made_up: how many of their bytes no source had: zeros in place of bytes at or past the source's end.
+ * At 0 every stored byte came from the source; above 0 the load asks for more than the source has, as where a capture cut it
+ * short. A byte that is stored several times over, as a palette's are, counts each time. made_up is never above count; both
+ * are 0 where the load is refused. */
+typedef struct tk_load_answer {
+    uint32_t refusal;
+    uint32_t count;
+    uint32_t made_up;
+} tk_load_answer;
 
 /* flag: 1 if the tile calls for a lookup, 0 for a plain picture. width, height: the texels to allocate for it. */
 typedef struct tk_sampling_answer {
@@ -111,20 +121,20 @@ typedef struct tk_tile {
 /* ---- Loads ---------------------------------------------------------------------------------------------------------- */
 
 /* A load stores bytes of the source into the bank and marks each stored address in the written map, which only gains marks.
- * The source has 0 to 65,536 bytes; past its end it is read as zero. Of the tile a load takes fmt, siz, line and tmem_addr.
+ * The source has 0 to 65,536 bytes; past its end zeros are made up. Of the tile a load takes fmt, siz, line and tmem_addr.
  * image_siz, 0..3, is the size of the image that is loaded from. On odd rows the two halves of each word change places, as
  * making a picture expects.
- * Refuses 1 (bank, written), 2, 4. Answers the count of stores. */
+ * Refuses 1 (bank, written), 2, 4. Answers the count of stores, and how many of their bytes were made up. */
 
 /* words: 0..2,048 words of eight bytes in a row. dxt: 0..4,095, added up word by word; each 2,048 begins a new row. */
-tk_answer tk_load_block(uint8_t *bank, size_t bank_length, uint8_t *written, size_t written_length, const uint8_t *source,
-                        size_t source_length, uint32_t fmt, uint32_t siz, uint32_t line, uint32_t tmem_addr,
-                        uint32_t image_siz, uint32_t dxt, uint32_t words);
+tk_load_answer tk_load_block(uint8_t *bank, size_t bank_length, uint8_t *written, size_t written_length,
+                             const uint8_t *source, size_t source_length, uint32_t fmt, uint32_t siz, uint32_t line,
+                             uint32_t tmem_addr, uint32_t image_siz, uint32_t dxt, uint32_t words);
 
 /* rows: 0..1,024. words: 0..512, of eight bytes, in each row. stride: 0..65,535 source bytes from row to row. */
-tk_answer tk_load_tile(uint8_t *bank, size_t bank_length, uint8_t *written, size_t written_length, const uint8_t *source,
-                       size_t source_length, uint32_t fmt, uint32_t siz, uint32_t line, uint32_t tmem_addr,
-                       uint32_t image_siz, uint32_t rows, uint32_t words, uint32_t stride);
+tk_load_answer tk_load_tile(uint8_t *bank, size_t bank_length, uint8_t *written, size_t written_length,
+                            const uint8_t *source, size_t source_length, uint32_t fmt, uint32_t siz, uint32_t line,
+                            uint32_t tmem_addr, uint32_t image_siz, uint32_t rows, uint32_t words, uint32_t stride);
 
 /* A palette: an entry of two bytes is stored four times over. count: 0..1,024 entries a row. rows: 1..1,024. stride:
  * 0..65,535 source bytes from row to row.
@@ -137,9 +147,9 @@ tk_answer tk_load_tile(uint8_t *bank, size_t bank_length, uint8_t *written, size
  *
  * Several rows, or an image of size 0, store entry i of row r from byte 8 tmem_addr + 32 r line + 8 i on, wrapped at the
  * bank's end: rows step 32 line. Here fmt and siz have no effect. */
-tk_answer tk_load_tlut(uint8_t *bank, size_t bank_length, uint8_t *written, size_t written_length, const uint8_t *source,
-                       size_t source_length, uint32_t fmt, uint32_t siz, uint32_t line, uint32_t tmem_addr,
-                       uint32_t image_siz, uint32_t count, uint32_t rows, uint32_t stride);
+tk_load_answer tk_load_tlut(uint8_t *bank, size_t bank_length, uint8_t *written, size_t written_length,
+                            const uint8_t *source, size_t source_length, uint32_t fmt, uint32_t siz, uint32_t line,
+                            uint32_t tmem_addr, uint32_t image_siz, uint32_t count, uint32_t rows, uint32_t stride);
 
 /* ---- Which picture -------------------------------------------------------------------------------------------------- */
 
@@ -208,8 +218,8 @@ tk_answer tk_key(const uint8_t *bank, size_t bank_length, TK_TILE_PARAMETERS, ui
  * end: the bytes of the companion file. part: its bytes from the record's offset on. The first `length` of them are the
  * source; further ones are not read. A key needs no part.
  *
- * A load changes bank and written map and answers the count of stores. A key changes nothing and answers the count of bytes
- * that tk_key would keep of the bank as it stands.
+ * A load changes bank and written map and answers the count of stores; how many of their bytes were made up is not answered.
+ * A key changes nothing and answers the count of bytes that tk_key would keep of the bank as it stands.
  * Refuses 1 (bank, written), 8, 10; then a load 2, 4 (length above 65,536 too), 11 (offset + length above end, or a part
  * shorter than length); and a key 2, 3, 5, 9.
  *
@@ -224,22 +234,22 @@ tk_answer tk_replay_record(uint8_t *bank, size_t bank_length, uint8_t *written, 
 /* Here a bank or key is a pointer to TK_BANK_BYTES, a written or reach map to TK_MAP_BYTES, a lane map to TK_LANE_MAP_BYTES,
  * a record to TK_RECORD_BYTES. */
 
-static inline tk_answer tk_load_block_of(uint8_t *bank, uint8_t *written, const uint8_t *source, size_t source_length,
-                                         const tk_tile *tile, uint32_t image_siz, uint32_t dxt, uint32_t words) {
+static inline tk_load_answer tk_load_block_of(uint8_t *bank, uint8_t *written, const uint8_t *source, size_t source_length,
+                                              const tk_tile *tile, uint32_t image_siz, uint32_t dxt, uint32_t words) {
     return tk_load_block(bank, TK_BANK_BYTES, written, TK_MAP_BYTES, source, source_length, tile->fmt, tile->siz,
                          tile->line, tile->tmem_addr, image_siz, dxt, words);
 }
 
-static inline tk_answer tk_load_tile_of(uint8_t *bank, uint8_t *written, const uint8_t *source, size_t source_length,
-                                        const tk_tile *tile, uint32_t image_siz, uint32_t rows, uint32_t words,
-                                        uint32_t stride) {
+static inline tk_load_answer tk_load_tile_of(uint8_t *bank, uint8_t *written, const uint8_t *source, size_t source_length,
+                                             const tk_tile *tile, uint32_t image_siz, uint32_t rows, uint32_t words,
+                                             uint32_t stride) {
     return tk_load_tile(bank, TK_BANK_BYTES, written, TK_MAP_BYTES, source, source_length, tile->fmt, tile->siz, tile->line,
                         tile->tmem_addr, image_siz, rows, words, stride);
 }
 
-static inline tk_answer tk_load_tlut_of(uint8_t *bank, uint8_t *written, const uint8_t *source, size_t source_length,
-                                        const tk_tile *tile, uint32_t image_siz, uint32_t count, uint32_t rows,
-                                        uint32_t stride) {
+static inline tk_load_answer tk_load_tlut_of(uint8_t *bank, uint8_t *written, const uint8_t *source, size_t source_length,
+                                             const tk_tile *tile, uint32_t image_siz, uint32_t count, uint32_t rows,
+                                             uint32_t stride) {
     return tk_load_tlut(bank, TK_BANK_BYTES, written, TK_MAP_BYTES, source, source_length, tile->fmt, tile->siz, tile->line,
                         tile->tmem_addr, image_siz, count, rows, stride);
 }

@@ -29,9 +29,9 @@ int main(void) {
     load.line = 0; /* a block load steps through memory on its own */
 
     /* Two words; a dxt of 2,048 begins a new row at each. */
-    tk_answer loaded = tk_load_block_of(bank, written, source, sizeof source, &load, 2, 2048, 2);
+    tk_load_answer loaded = tk_load_block_of(bank, written, source, sizeof source, &load, 2, 2048, 2);
     if (refused("load", loaded.refusal)) return 1;
-    printf("stores: %" PRIu32 "\n", loaded.count);
+    printf("stores: %" PRIu32 ", made up: %" PRIu32 "\n", loaded.count, loaded.made_up); /* the source is whole: 0 */
 
     tk_answer made = tk_sample_tile_of(bank, &tile, 0, picture, sizeof picture);
     if (refused("picture", made.refusal)) return 1;

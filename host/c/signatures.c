@@ -192,7 +192,7 @@ static void check_lengths(void) {
     CHECK(tk_sampling_lookup_observed_of(bank, t, 0, picture, sizeof picture, trail, 32767).refusal == 7);
 }
 
-/* What each entry answers and leaves on success. */
+/* What each entry but the loads and the replay answers and leaves on success. */
 static void check_answers(void) {
     tk_tile tile = plain_tile();
     for (uint32_t i = 0; i < TK_BANK_BYTES; i++) bank[i] = (uint8_t)i;
@@ -233,17 +233,34 @@ static void check_answers(void) {
     CHECK(answer.refusal == 0 && answer.count == 6 && key[16] == 16 && key[30] == 30 && key[19] == 0 && key[4095] == 0);
 
     CHECK(tk_palette_nonreplicated_of(bank, lanes) == 0 && lanes[0] == 255 && lanes[31] == 255);
+}
 
-    /* A word of eight bytes at address 16; then one in row 1; then a palette entry. */
+/* What the loads answer and leave: a word of eight bytes at address 16; then one in row 1; then palette entries. */
+static void check_load_answers(void) {
     tk_tile load = {0, 2, 0, 0, 0, 0, 0, 0, 1, 2, 0, 0};
+    memset(written, 0, sizeof written);
     for (uint32_t i = 0; i < sizeof source; i++) source[i] = (uint8_t)(100 + i);
-    answer = tk_load_block_of(bank, written, source, sizeof source, &load, 2, 0, 1);
-    CHECK(answer.refusal == 0 && answer.count == 8 && bank[16] == 100 && bank[23] == 107 && written[2] == 255);
+    tk_load_answer answer = tk_load_block_of(bank, written, source, sizeof source, &load, 2, 0, 1);
+    CHECK(answer.refusal == 0 && answer.count == 8 && answer.made_up == 0);
+    CHECK(bank[16] == 100 && bank[23] == 107 && written[2] == 255);
     answer = tk_load_tile_of(bank, written, source, sizeof source, &load, 2, 2, 1, 16);
-    CHECK(answer.refusal == 0 && answer.count == 16 && bank[16] == 100 && bank[28] == 116 && written[3] == 255);
+    CHECK(answer.refusal == 0 && answer.count == 16 && answer.made_up == 0);
+    CHECK(bank[16] == 100 && bank[28] == 116 && written[3] == 255);
     answer = tk_load_tlut_of(bank, written, source, sizeof source, &load, 0, 2, 2, 16);
-    CHECK(answer.refusal == 0 && answer.count == 32 && bank[16] == 100 && bank[24] == 102 && bank[48] == 116 &&
-          bank[56] == 118);
+    CHECK(answer.refusal == 0 && answer.count == 32 && answer.made_up == 0);
+    CHECK(bank[16] == 100 && bank[24] == 102 && bank[48] == 116 && bank[56] == 118);
+
+    /* The same with a source that is cut short. Each byte of a palette entry is stored four times. */
+    answer = tk_load_block_of(bank, written, source, 5, &load, 2, 0, 1);
+    CHECK(answer.refusal == 0 && answer.count == 8 && answer.made_up == 3 && bank[20] == 104 && bank[21] == 0);
+    answer = tk_load_tile_of(bank, written, source, 22, &load, 2, 2, 1, 16);
+    CHECK(answer.refusal == 0 && answer.count == 16 && answer.made_up == 2 && bank[25] == 121 && bank[26] == 0);
+    answer = tk_load_tlut_of(bank, written, source, 19, &load, 0, 2, 2, 16);
+    CHECK(answer.refusal == 0 && answer.count == 32 && answer.made_up == 4 && bank[62] == 118 && bank[63] == 0);
+    answer = tk_load_tlut_of(bank, written, source, 3, &load, 2, 2, 1, 0);
+    CHECK(answer.refusal == 0 && answer.count == 16 && answer.made_up == 4);
+    answer = tk_load_tlut_of(bank, written, source, 3, &load, 2, 2, 0, 0);
+    CHECK(answer.refusal == 4 && answer.count == 0 && answer.made_up == 0);
 }
 
 /* The same loads by records, with sources at offsets of the companion; and the key of the tile of check_answers. */
@@ -271,13 +288,16 @@ static void check_replay(void) {
     CHECK(answer.refusal == 0 && answer.count == 6 && memcmp(before, bank, sizeof bank) == 0);
 }
 
+/* Eight stores, none of a byte of the source. */
+static int all_made_up(tk_load_answer answer) { return answer.count == 8 && answer.made_up == 8; }
+
 /* An empty buffer may be null. */
 static void check_null(void) {
     tk_tile tile = with(plain_tile(), 10, 0);
     const tk_tile *t = &tile;
-    CHECK(tk_load_block(bank, sizeof bank, written, sizeof written, NULL, 0, 0, 2, 0, 0, 2, 0, 1).count == 8);
-    CHECK(tk_load_tile(bank, sizeof bank, written, sizeof written, NULL, 0, 0, 2, 0, 0, 2, 1, 1, 0).count == 8);
-    CHECK(tk_load_tlut(bank, sizeof bank, written, sizeof written, NULL, 0, 0, 2, 0, 0, 2, 1, 1, 0).count == 8);
+    CHECK(all_made_up(tk_load_block(bank, sizeof bank, written, sizeof written, NULL, 0, 0, 2, 0, 0, 2, 0, 1)));
+    CHECK(all_made_up(tk_load_tile(bank, sizeof bank, written, sizeof written, NULL, 0, 0, 2, 0, 0, 2, 1, 1, 0)));
+    CHECK(all_made_up(tk_load_tlut(bank, sizeof bank, written, sizeof written, NULL, 0, 0, 2, 0, 0, 2, 1, 1, 0)));
     CHECK(tk_sample_tile_of(bank, t, 0, NULL, 0).refusal == 0);
     CHECK(tk_sample_tile_observed_of(bank, t, 0, NULL, 0, NULL, 0).refusal == 0);
     CHECK(tk_sampling_lookup_of(bank, t, 0, NULL, 0).refusal == 6);
@@ -302,6 +322,7 @@ int main(void) {
     check_fields();
     check_record();
     check_answers();
+    check_load_answers();
     check_replay();
     check_null();
     return wrong;

@@ -3,8 +3,8 @@
  *     rough SECONDS SEED [CALLS]      until the time is up, or for so many calls
  *
  * Each buffer lies against a page that cannot be touched, at its end or at its start, so that the archive cannot reach
- * outside it unseen. After each call its refusal is held against the tables of documents 01 and 02, worked out here on their
- * own, its other answers against 0 where it refused, and every byte that must not have changed against a copy. */
+ * outside it unseen. After each call its refusal and its counts are held against the tables of documents 01 and 02, worked out
+ * here on their own, its other answers against 0 where it refused, and every byte that must not have changed against a copy. */
 
 #include <stdbool.h>
 #include <stdio.h>
@@ -280,6 +280,7 @@ static void choose_tile(void) {
 static void choose_load(void) {
     now.image_siz = up_to(3);
     bool many = one_in(64);
+    uint32_t stride_most = one_in(2) ? 80 : 65535; /* with small strides a source ends in any row */
     switch (now.does) {
         case LOAD_BLOCK:
             now.numbers[0] = up_to(4095);
@@ -288,12 +289,12 @@ static void choose_load(void) {
         case LOAD_TILE:
             now.numbers[0] = up_to(many ? 200 : 8);
             now.numbers[1] = up_to(many ? 100 : 8);
-            now.numbers[2] = up_to(65535);
+            now.numbers[2] = up_to(stride_most);
             break;
         default:
             now.numbers[0] = up_to(many ? 1024 : 40);
             now.numbers[1] = one_in(2) ? 1 : 1 + up_to(many ? 40 : 3);
-            now.numbers[2] = up_to(65535);
+            now.numbers[2] = up_to(stride_most);
     }
 }
 
@@ -421,22 +422,28 @@ static void set_answer(tk_answer given) {
     answer.numbers[0] = given.count;
 }
 
+static void set_load_answer(tk_load_answer given) {
+    answer.refusal = given.refusal;
+    answer.numbers[0] = given.count;
+    answer.numbers[1] = given.made_up;
+}
+
 static void make_call(void) {
     const tk_tile *t = &now.tile;
     const uint32_t *n = now.numbers;
     memset(&answer, 0, sizeof answer);
     switch (now.entry) {
         case LOAD_BLOCK:
-            set_answer(tk_load_block(LENT(BANK), LENT(WRITTEN), LENT(SOURCE), t->fmt, t->siz, t->line, t->tmem_addr,
-                                     now.image_siz, n[0], n[1]));
+            set_load_answer(tk_load_block(LENT(BANK), LENT(WRITTEN), LENT(SOURCE), t->fmt, t->siz, t->line, t->tmem_addr,
+                                          now.image_siz, n[0], n[1]));
             break;
         case LOAD_TILE:
-            set_answer(tk_load_tile(LENT(BANK), LENT(WRITTEN), LENT(SOURCE), t->fmt, t->siz, t->line, t->tmem_addr,
-                                    now.image_siz, n[0], n[1], n[2]));
+            set_load_answer(tk_load_tile(LENT(BANK), LENT(WRITTEN), LENT(SOURCE), t->fmt, t->siz, t->line, t->tmem_addr,
+                                         now.image_siz, n[0], n[1], n[2]));
             break;
         case LOAD_TLUT:
-            set_answer(tk_load_tlut(LENT(BANK), LENT(WRITTEN), LENT(SOURCE), t->fmt, t->siz, t->line, t->tmem_addr,
-                                    now.image_siz, n[0], n[1], n[2]));
+            set_load_answer(tk_load_tlut(LENT(BANK), LENT(WRITTEN), LENT(SOURCE), t->fmt, t->siz, t->line, t->tmem_addr,
+                                         now.image_siz, n[0], n[1], n[2]));
             break;
         case SAMPLING: {
             tk_sampling_answer given = tk_sampling(TK_TILE_ARGUMENTS(t));
@@ -489,15 +496,38 @@ static void check_buffer(int i, size_t changed, bool whole) {
     if (memcmp(b->memory + from, b->copy + from, to - from) != 0) fail(buffer_names[i]);
 }
 
-static void check_count(void) {
-    uint64_t count = now.does == LOAD_BLOCK ? 8 * (uint64_t)now.numbers[1] : 8 * (uint64_t)now.numbers[0] * now.numbers[1];
-    if (now.does == LOAD_TLUT && now.numbers[1] == 1 && now.image_siz > 0) {
-        uint32_t entries_a_step = now.image_siz == 2 ? 1 : 16u >> now.image_siz;
-        count = 8 * (uint64_t)((now.numbers[0] + entries_a_step - 1) / entries_a_step);
+/* How a load goes through its source: so many pieces of so many bytes, each so far behind the one before, and each byte stored
+ * so often. */
+typedef struct walk {
+    uint64_t pieces, bytes, apart, times;
+} walk;
+
+static walk load_walk(void) {
+    const uint32_t *n = now.numbers;
+    if (now.does == LOAD_BLOCK) return (walk){n[1], 8, 8, 1};
+    if (now.does == LOAD_TILE) return (walk){n[0], 8 * n[1], n[2], 1};
+    bool in_steps = n[1] == 1 && (now.image_siz == 1 || now.image_siz == 3);
+    if (!in_steps) return (walk){n[1], 2 * n[0], n[2], 4};
+    uint32_t entries_a_step = 16u >> now.image_siz;
+    return (walk){(n[0] + entries_a_step - 1) / entries_a_step, 2, 8, 4};
+}
+
+/* The stores, and how many of their bytes were made up, at or past the source's end. A record answers the first alone. */
+static void check_load_counts(void) {
+    walk w = load_walk();
+    uint64_t past_end = 0, length = buffers[SOURCE].length;
+    for (uint64_t piece = 0; piece < w.pieces; piece++) {
+        uint64_t start = piece * w.apart, end = start + w.bytes;
+        past_end += end <= length ? 0 : end - (start < length ? length : start);
     }
-    if (entries[now.does].takes & TAKES_PICTURE) count = reads_each() * texels();
-    bool counts = entries[now.does].takes & (TAKES_LOAD | TAKES_PICTURE);
-    if (counts && answer.numbers[0] != count) fail("the count");
+    if (answer.numbers[0] != w.pieces * w.bytes * w.times) fail("the count of stores");
+    if (answer.numbers[1] != (now.entry == REPLAY_RECORD ? 0 : past_end * w.times)) fail("the made-up count");
+}
+
+static void check_counts(void) {
+    if (entries[now.does].takes & TAKES_LOAD) check_load_counts();
+    bool picture = entries[now.does].takes & TAKES_PICTURE;
+    if (picture && answer.numbers[0] != reads_each() * texels()) fail("the count of reads");
 }
 
 static void check_call(bool whole) {
@@ -507,7 +537,7 @@ static void check_call(bool whole) {
         fail("the refusal");
     }
     if (refusal != 0 && (answer.numbers[0] | answer.numbers[1] | answer.numbers[2]) != 0) fail("numbers beside a refusal");
-    if (refusal == 0) check_count();
+    if (refusal == 0) check_counts();
     for (int i = 0; i < BUFFERS; i++) {
         bool written = entries[now.entry].written >> i & 1, lent = written || (entries[now.entry].read >> i & 1);
         if (lent) check_buffer(i, refusal == 0 && written ? bytes_written(i) : 0, whole);

@@ -4,6 +4,7 @@ ghost use lib.ListN.{length};
 use crate::buffers;
 use crate::record;
 use rdp::answer::Answer;
+use rdp::answer::LoadAnswer;
 use tmem::bank::Bank;
 
 // The bank of a case.
@@ -31,7 +32,7 @@ fn answer_is(r: &[u8], answer: Answer, first: &[u8]) -> bool {
 }
 
 // A block, tile or TLUT load.
-fn load(r: &[u8], kind: u32, bank: &mut [u8], written: &mut [u8], source: &[u8]) -> Answer {
+fn load(r: &[u8], kind: u32, bank: &mut [u8], written: &mut [u8], source: &[u8]) -> LoadAnswer {
     let tile = record::tile(r);
     let image = record::two(r, 18);
     let a = record::two(r, 20);
@@ -49,7 +50,10 @@ fn load_is(r: &[u8], kind: u32, source: &[u8]) -> bool {
     let mut written = [0u8; 512];
     buffers::made(&mut written, record::four(r, 30), 1);
     let answer = load(r, kind, &mut bank, &mut written, source);
-    answer_is(r, answer, &bank) & second_is(r, &written)
+    record::answered(r, answer.refusal, answer.count)
+        & (answer.made_up == record::four(r, 52))
+        & first_is(r, &bank)
+        & second_is(r, &written)
 }
 
 // A load of a source of the case's length.

@@ -17,6 +17,17 @@ pub struct Bank {
     written: AddressMap,
 }
 
+/// What a load did.
+#[derive(Clone, Copy, Debug, PartialEq, Eq)]
+pub struct Loaded {
+    /// How often it stored a byte.
+    pub count: u32,
+    /// How many of the stored bytes no source had: zeros in place of bytes at or past the source's end. At 0 every stored byte
+    /// came from the source; above 0 the load asks for more than the source has, as where a capture cut it short. A byte that is
+    /// stored several times over, as a palette's are, counts each time. Never above `count`.
+    pub made_up: u32,
+}
+
 /// A picture with the addresses that were read for it, in order.
 #[derive(Clone, Debug, PartialEq, Eq)]
 pub struct Observed {
@@ -69,24 +80,35 @@ impl Bank {
         &self.written
     }
 
-    /// Loads a block of `words` words of eight bytes, and answers the count of stores. Of the tile it takes `fmt`, `siz`,
-    /// `line` and `tmem_addr`. The source is read as zero past its end.
+    /// Loads a block of `words` words of eight bytes. Of the tile it takes `fmt`, `siz`, `line` and `tmem_addr`. The source is read
+    /// as zero past its end, and the answer says how many of these zeros were stored.
     ///
     /// ```
-    /// use tulonkasa::{Bank, Tile};
+    /// use tulonkasa::{Bank, Loaded, Tile};
     ///
     /// let mut bank = Bank::new();
     /// let tile = Tile { fmt: 0, siz: 3, ..Tile::default() };
-    /// assert_eq!(bank.load_block(&[0, 1, 2, 3, 4, 5, 6, 7], &tile, 3, 0, 1)?, 8);
+    /// let whole = bank.load_block(&[0, 1, 2, 3, 4, 5, 6, 7], &tile, 3, 0, 1)?;
+    /// assert_eq!(whole, Loaded { count: 8, made_up: 0 });
     /// assert_eq!(bank.bytes()[..4], [0, 1, 4, 5]);
     /// assert_eq!(bank.bytes()[2048..2052], [2, 3, 6, 7]);
+    ///
+    /// let cut = bank.load_block(&[0, 1, 2, 3, 4], &tile, 3, 0, 1)?;
+    /// assert_eq!(cut, Loaded { count: 8, made_up: 3 });
     /// # Ok::<(), tulonkasa::Refusal>(())
     /// ```
-    pub fn load_block(&mut self, source: &[u8], tile: &Tile, image_siz: u32, dxt: u32, words: u32) -> Result<u32, Refusal> {
+    pub fn load_block(
+        &mut self,
+        source: &[u8],
+        tile: &Tile,
+        image_siz: u32,
+        dxt: u32,
+        words: u32,
+    ) -> Result<Loaded, Refusal> {
         slices::load_block(&mut self.bytes, &mut self.written.0, source, tile, image_siz, dxt, words)
     }
 
-    /// Loads `rows` rows of `words` words each, `stride` source bytes apart, and answers the count of stores.
+    /// Loads `rows` rows of `words` words each, `stride` source bytes apart.
     ///
     /// ```
     /// use tulonkasa::{Bank, Tile};
@@ -94,7 +116,7 @@ impl Bank {
     /// let mut bank = Bank::new();
     /// let tile = Tile { siz: 2, line: 1, ..Tile::default() };
     /// let source: Vec<u8> = (0..16).collect();
-    /// assert_eq!(bank.load_tile(&source, &tile, 2, 2, 1, 8)?, 16);
+    /// assert_eq!(bank.load_tile(&source, &tile, 2, 2, 1, 8)?.count, 16);
     /// assert_eq!(bank.bytes()[8..16], [12, 13, 14, 15, 8, 9, 10, 11]); // odd rows swap their halves
     /// # Ok::<(), tulonkasa::Refusal>(())
     /// ```
@@ -106,11 +128,11 @@ impl Bank {
         rows: u32,
         words: u32,
         stride: u32,
-    ) -> Result<u32, Refusal> {
+    ) -> Result<Loaded, Refusal> {
         slices::load_tile(&mut self.bytes, &mut self.written.0, source, tile, image_siz, rows, words, stride)
     }
 
-    /// Loads a palette of `rows` rows of `count` entries, `stride` source bytes apart, and answers the count of stores.
+    /// Loads a palette of `rows` rows of `count` entries, `stride` source bytes apart.
     ///
     /// ```
     /// use tulonkasa::{Bank, Tile};
@@ -129,7 +151,7 @@ impl Bank {
         count: u32,
         rows: u32,
         stride: u32,
-    ) -> Result<u32, Refusal> {
+    ) -> Result<Loaded, Refusal> {
         slices::load_tlut(&mut self.bytes, &mut self.written.0, source, tile, image_siz, count, rows, stride)
     }
 
@@ -219,8 +241,9 @@ impl Bank {
         Ok(Key { bytes, kept })
     }
 
-    /// Does a record of a capture: a load, or the question for a key, which changes nothing. Answers the count of stores, or of
-    /// the bytes that the key would keep. `include/tulonkasa.h` says what a record's 48 bytes are.
+    /// Does a record of a capture: a load, or the question for a key, which changes nothing. Answers the count of stores, but not
+    /// how many of their bytes were made up; or of the bytes that the key would keep. `include/tulonkasa.h` says what a record's 48
+    /// bytes are.
     ///
     /// `end` is the length of the capture's companion file, and `part` the file's bytes from the record's offset on: at least as
     /// many as the record states. A key needs none.

@@ -6,12 +6,21 @@
 //! Each pointer must be good for its length (a length of 0 allows any pointer), and the buffers of one call must not
 //! overlap. Nothing else is asked: every number and every length is taken or refused.
 
-/// A refusal, and a count of stores, reads or kept bytes.
+/// A refusal, and a count of reads or kept bytes, or of a record's stores.
 #[repr(C)]
 #[derive(Clone, Copy, Debug, PartialEq, Eq)]
 pub struct Answer {
     pub refusal: u32,
     pub count: u32,
+}
+
+/// A refusal, the count of a load's stores, and how many of their bytes were made up past the source's end.
+#[repr(C)]
+#[derive(Clone, Copy, Debug, PartialEq, Eq)]
+pub struct LoadAnswer {
+    pub refusal: u32,
+    pub count: u32,
+    pub made_up: u32,
 }
 
 /// A refusal, the sampling flag, and the allocation extent.
@@ -62,7 +71,7 @@ extern "C" {
         image_siz: u32,
         dxt: u32,
         words: u32,
-    ) -> Answer;
+    ) -> LoadAnswer;
 
     pub fn tk_load_tile(
         bank: *mut u8,
@@ -79,7 +88,7 @@ extern "C" {
         rows: u32,
         words: u32,
         stride: u32,
-    ) -> Answer;
+    ) -> LoadAnswer;
 
     pub fn tk_load_tlut(
         bank: *mut u8,
@@ -96,7 +105,7 @@ extern "C" {
         count: u32,
         rows: u32,
         stride: u32,
-    ) -> Answer;
+    ) -> LoadAnswer;
 
     pub fn tk_palette_nonreplicated(bank: *const u8, bank_length: usize, map: *mut u8, map_length: usize) -> u32;
 

@@ -29,7 +29,7 @@ mod refusal;
 pub mod slices;
 mod tile;
 
-pub use bank::{Bank, Key, Observed, BANK_BYTES, LOOKUP_TEXELS};
+pub use bank::{Bank, Key, Loaded, Observed, BANK_BYTES, LOOKUP_TEXELS};
 pub use map::{AddressMap, LaneMap, Map};
 pub use refusal::Refusal;
 pub use tile::{Sampling, Tile};

@@ -1,6 +1,6 @@
 //! The archive's calls on lent slices of any length, for callers that keep their own buffers. `include/tulonkasa.h` says what
 //! each takes, refuses, answers and leaves. All of this crate's unsafe code is here.
-use crate::{ffi, Refusal, Sampling, Tile};
+use crate::{ffi, Loaded, Refusal, Sampling, Tile};
 
 /// Calls an entry of [`ffi`]. Around the tile, whose twelve numbers are passed, stand numbers, and slices as `[slice]`
 /// to be read or `[mut slice]` to be written.
@@ -27,11 +27,11 @@ macro_rules! load {
                 $tile.fmt, $tile.siz, $tile.line, $tile.tmem_addr $(, $number)*
             )
         };
-        counted(answer)
+        Refusal::check(answer.refusal, Loaded { count: answer.count, made_up: answer.made_up })
     }};
 }
 
-/// Answers the count of stores.
+/// Answers the count of stores, and how many of their bytes were made up.
 pub fn load_block(
     bank: &mut [u8],
     written: &mut [u8],
@@ -40,11 +40,11 @@ pub fn load_block(
     image_siz: u32,
     dxt: u32,
     words: u32,
-) -> Result<u32, Refusal> {
+) -> Result<Loaded, Refusal> {
     load!(tk_load_block(bank, written, source, tile, image_siz, dxt, words))
 }
 
-/// Answers the count of stores.
+/// Answers the count of stores, and how many of their bytes were made up.
 #[allow(clippy::too_many_arguments)]
 pub fn load_tile(
     bank: &mut [u8],
@@ -55,11 +55,11 @@ pub fn load_tile(
     rows: u32,
     words: u32,
     stride: u32,
-) -> Result<u32, Refusal> {
+) -> Result<Loaded, Refusal> {
     load!(tk_load_tile(bank, written, source, tile, image_siz, rows, words, stride))
 }
 
-/// Answers the count of stores.
+/// Answers the count of stores, and how many of their bytes were made up.
 #[allow(clippy::too_many_arguments)]
 pub fn load_tlut(
     bank: &mut [u8],
@@ -70,7 +70,7 @@ pub fn load_tlut(
     count: u32,
     rows: u32,
     stride: u32,
-) -> Result<u32, Refusal> {
+) -> Result<Loaded, Refusal> {
     load!(tk_load_tlut(bank, written, source, tile, image_siz, count, rows, stride))
 }
 

@@ -1,16 +1,21 @@
 //! The worked examples and the limits, through the safe calls.
-use crate::{Bank, Refusal, Tile, LOOKUP_TEXELS};
+use crate::{Bank, Loaded, Refusal, Tile, LOOKUP_TEXELS};
 
 /// 0, 1, 2, .. n - 1.
 fn rising(n: u8) -> Vec<u8> {
     (0..n).collect()
 }
 
+/// What a load answers that is not refused.
+fn loaded(count: u32, made_up: u32) -> Result<Loaded, Refusal> {
+    Ok(Loaded { count, made_up })
+}
+
 #[test]
 fn block_swaps_the_halves_of_odd_rows() {
     let mut bank = Bank::new();
     let tile = Tile { siz: 2, ..Tile::default() };
-    assert_eq!(bank.load_block(&rising(16), &tile, 2, 2048, 2), Ok(16));
+    assert_eq!(bank.load_block(&rising(16), &tile, 2, 2048, 2), loaded(16, 0));
     assert_eq!(bank.bytes()[8..16], [12, 13, 14, 15, 8, 9, 10, 11]);
     assert_eq!(bank.written().iter().collect::<Vec<_>>(), (0..16).collect::<Vec<_>>());
 }
@@ -19,7 +24,7 @@ fn block_swaps_the_halves_of_odd_rows() {
 fn block_wraps_inside_its_half() {
     let mut bank = Bank::new();
     let tile = Tile { tmem_addr: 255, ..Tile::default() };
-    assert_eq!(bank.load_block(&rising(16), &tile, 2, 0, 2), Ok(16));
+    assert_eq!(bank.load_block(&rising(16), &tile, 2, 0, 2), loaded(16, 0));
     assert_eq!(bank.bytes()[..2], [8, 9]);
     assert_eq!(bank.bytes()[2040..2048], [0, 1, 10, 11, 12, 13, 14, 15]);
 }
@@ -28,10 +33,83 @@ fn block_wraps_inside_its_half() {
 fn a_short_source_reads_as_zero() {
     let mut bank = Bank::from([7; 4096]);
     let tile = Tile { siz: 2, ..Tile::default() };
-    assert_eq!(bank.load_tile(&[1, 2, 3], &tile, 2, 1, 1, 0), Ok(8));
+    assert_eq!(bank.load_tile(&[1, 2, 3], &tile, 2, 1, 1, 0), loaded(8, 5));
     assert_eq!(bank.bytes()[..9], [1, 2, 3, 0, 0, 0, 0, 0, 7]);
-    assert_eq!(bank.load_tile(&[], &tile, 2, 1, 1, 0), Ok(8));
+    assert_eq!(bank.load_tile(&[], &tile, 2, 1, 1, 0), loaded(8, 8));
     assert_eq!(bank.bytes()[..9], [0, 0, 0, 0, 0, 0, 0, 0, 7]);
+}
+
+/// The formats and sizes of a word that stays together, and of words whose bytes go to both halves of the bank.
+const PAIRS: [(u32, u32); 4] = [(0, 2), (4, 1), (0, 3), (1, 2)];
+
+/// Does a load of so many stores with sources of every length from 0 on, and compares how many of the bytes are made up, in each
+/// of the pairs. Past the lengths that are listed none is.
+fn made_up(count: u32, listed: &[u32], load: impl Fn(&mut Bank, &[u8], &Tile) -> Result<Loaded, Refusal>) {
+    for (fmt, siz) in PAIRS {
+        let tile = Tile { fmt, siz, line: 1, tmem_addr: 254, ..Tile::default() };
+        for length in 0..listed.len() + 9 {
+            let due = loaded(count, listed.get(length).copied().unwrap_or(0));
+            let answer = load(&mut Bank::new(), &vec![1; length], &tile);
+            assert_eq!(answer, due, "({fmt},{siz}), {length} bytes");
+        }
+    }
+}
+
+#[test]
+fn a_block_tells_what_is_made_up() {
+    let falling: Vec<u32> = (1..=24).rev().collect();
+    for dxt in [0, 2048] {
+        made_up(24, &falling, |bank, source, tile| bank.load_block(source, tile, 2, dxt, 3));
+    }
+    made_up(0, &[], |bank, source, tile| bank.load_block(source, tile, 2, 0, 0));
+}
+
+#[test]
+fn a_tile_tells_what_is_made_up() {
+    let falling: Vec<u32> = (1..=16).rev().collect();
+    made_up(16, &falling, |bank, source, tile| bank.load_tile(source, tile, 2, 2, 1, 8));
+    // Rows three apart share five bytes, each of which counts in both.
+    let shared = [16, 15, 14, 13, 11, 9, 7, 5, 3, 2, 1];
+    made_up(16, &shared, |bank, source, tile| bank.load_tile(source, tile, 2, 2, 1, 3));
+    // Between rows ten apart are two bytes that no row reads.
+    let apart = [16, 15, 14, 13, 12, 11, 10, 9, 8, 8, 8, 7, 6, 5, 4, 3, 2, 1];
+    made_up(16, &apart, |bank, source, tile| bank.load_tile(source, tile, 2, 2, 1, 10));
+}
+
+#[test]
+fn a_palette_tells_what_is_made_up() {
+    // Each byte is stored four times. A step of the hardware takes two bytes, and goes on by two or by eight.
+    made_up(24, &[24, 20, 16, 12, 8, 4], |bank, source, tile| bank.load_tlut(source, tile, 2, 3, 1, 0));
+    let far = [16, 12, 8, 8, 8, 8, 8, 8, 8, 4];
+    made_up(16, &far, |bank, source, tile| bank.load_tlut(source, tile, 1, 9, 1, 0));
+    made_up(16, &far, |bank, source, tile| bank.load_tlut(source, tile, 3, 3, 1, 0));
+    // Rows of entries: one of three, and two of two, three bytes apart, which share a byte.
+    made_up(24, &[24, 20, 16, 12, 8, 4], |bank, source, tile| bank.load_tlut(source, tile, 0, 3, 1, 0));
+    made_up(32, &[32, 28, 24, 20, 12, 8, 4], |bank, source, tile| bank.load_tlut(source, tile, 2, 2, 2, 3));
+}
+
+#[test]
+fn the_longest_sources_are_cut_too() {
+    let tile = Tile { siz: 2, line: 1, ..Tile::default() };
+    let load = |length| Bank::new().load_tile(&vec![1; length], &tile, 2, 2, 1, 65529);
+    assert_eq!(load(65535), loaded(16, 2));
+    assert_eq!(load(65536), loaded(16, 1));
+    let most = Bank::new().load_tlut(&[], &tile, 0, 1024, 1024, 65535);
+    assert_eq!(most, loaded(8_388_608, 8_388_608));
+}
+
+#[test]
+fn a_refused_load_changes_nothing() {
+    let mut bank = Bank::from([7; 4096]);
+    let tile = Tile { siz: 2, ..Tile::default() };
+    bank.load_block(&[1], &tile, 2, 0, 1).unwrap();
+    let before = bank.clone();
+    assert_eq!(bank.load_block(&[1], &Tile { fmt: 8, ..tile }, 2, 0, 2), Err(Refusal::Tile));
+    assert_eq!(bank.load_block(&[1], &tile, 2, 4096, 2), Err(Refusal::Load));
+    assert_eq!(bank.load_tile(&[1], &tile, 4, 1, 1, 0), Err(Refusal::Load));
+    assert_eq!(bank.load_tlut(&[1], &tile, 2, 1, 0, 0), Err(Refusal::Load));
+    assert_eq!(bank.load_tlut(&[1; 65537], &tile, 2, 1, 1, 0), Err(Refusal::Load));
+    assert_eq!(bank, before);
 }
 
 #[test]
@@ -90,7 +168,7 @@ fn limits() {
     assert!(bank.key(&Tile { fmt: 1, siz: 2, mode: 2, ..tile }, 0).is_ok());
     assert_eq!(Bank::new().load_tlut(&[], &tile, 2, 1, 0, 0), Err(Refusal::Load));
     assert_eq!(Bank::new().load_block(&[0; 65537], &tile, 2, 0, 1), Err(Refusal::Load));
-    assert_eq!(Bank::new().load_block(&[0; 65536], &tile, 2, 0, 1), Ok(8));
+    assert_eq!(Bank::new().load_block(&[0; 65536], &tile, 2, 0, 1), loaded(8, 0));
 }
 
 #[test]
@@ -155,12 +233,12 @@ fn a_replay_does_each_load_as_its_own_call_does() {
     put(&mut record, 18, 2u16.to_be_bytes()); // image size
     put(&mut record, 30, 7u32.to_be_bytes()); // offset
     put(&mut record, 34, 40u32.to_be_bytes()); // length
-    let check = |kind, numbers: &[(usize, u16)], load: &dyn Fn(&mut Bank) -> Result<u32, Refusal>| {
+    let check = |kind, numbers: &[(usize, u16)], load: &dyn Fn(&mut Bank) -> Result<Loaded, Refusal>| {
         let mut record = record;
         record[0] = kind;
         numbers.iter().for_each(|&(place, number)| put(&mut record, place, number.to_be_bytes()));
         let (mut replayed, mut loaded) = (Bank::new(), Bank::new());
-        assert_eq!(replayed.replay_record(&record, 47, &source), load(&mut loaded));
+        assert_eq!(replayed.replay_record(&record, 47, &source), load(&mut loaded).map(|loaded| loaded.count));
         assert_eq!(replayed, loaded);
         assert_ne!(replayed, Bank::new());
     };

@@ -44,6 +44,25 @@ pub struct Case {
     pub seed: u64,
 }
 
+/// How a load goes through its source: so many pieces of so many bytes, each so far behind the one before. Sources are chosen by
+/// it; nothing is compared with it.
+#[derive(Clone, Copy)]
+pub struct Pieces {
+    pub count: u32,
+    pub bytes: u32,
+    pub apart: u32,
+}
+
+impl Pieces {
+    /// How many bytes a source must have for all of them.
+    pub fn end(self) -> u32 {
+        match self.count.checked_sub(1) {
+            Some(before) if self.bytes > 0 => before * self.apart + self.bytes,
+            _ => 0,
+        }
+    }
+}
+
 impl Case {
     pub fn new(call: Call, tile: Tile) -> Self {
         Self {
@@ -67,6 +86,18 @@ impl Case {
             Call::LoadTlut => Load::Tlut { count: a, rows: b, stride: c },
             _ => Load::Tile { rows: a, words: b, stride: c },
         }
+    }
+
+    /// How the load goes through its source.
+    pub fn pieces(&self) -> Pieces {
+        let [a, b, c] = self.numbers;
+        let (count, bytes, apart) = match (self.call, self.image_siz) {
+            (Call::LoadBlock, _) => (b, 8, 8),
+            (Call::LoadTlut, 1 | 3) if b == 1 => (a.div_ceil(16 >> self.image_siz), 2, 8),
+            (Call::LoadTlut, _) => (b, 2 * a, c),
+            _ => (a, 8 * b, c),
+        };
+        Pieces { count, bytes, apart }
     }
 
     /// Every number, to be made smaller.

@@ -4,9 +4,9 @@ use crate::input::Input;
 use crate::program::Program;
 use crate::random::Random;
 use crate::replay;
-use original::calls::{self, Bytes, Load, Map, Memory, Picture, Reach};
+use original::calls::{self, Bytes, Counted, Load, Map, Memory, Picture, Reach};
 use std::ops::AddAssign;
-use tulonkasa::{slices, Refusal, Sampling, Tile, LOOKUP_TEXELS};
+use tulonkasa::{slices, Loaded, Refusal, Sampling, Tile, LOOKUP_TEXELS};
 
 /// What a buffer that is lent to be written holds before.
 pub const BEFORE: u8 = 0xa5;
@@ -23,6 +23,7 @@ pub struct Amount {
     pub calls: u64,
     pub refused: u64,
     pub stores: u64,
+    pub made_up: u64,
     pub texels: u64,
     pub reads: u64,
 }
@@ -32,6 +33,7 @@ impl AddAssign for Amount {
         self.calls += other.calls;
         self.refused += other.refused;
         self.stores += other.stores;
+        self.made_up += other.made_up;
         self.texels += other.texels;
         self.reads += other.reads;
     }
@@ -98,19 +100,19 @@ impl Workspace {
         let mut memory = Memory::new(&self.bank);
         let untouched = source.to_vec();
         let image_siz = case.image_siz as u8;
-        let (stores, marks) = memory.load_counted(&untouched, &descriptor(&case.tile), image_siz, case.load());
-        same_answer(Ok(stores), answer)?;
+        let counted = memory.load_counted(&untouched, &descriptor(&case.tile), image_siz, case.load());
+        same_loaded(&counted, answer)?;
         same("the bank", &memory.bytes()[..], &bank[..])?;
-        for (before, mark) in before.iter_mut().zip(marks) {
+        for (before, mark) in before.iter_mut().zip(counted.marks) {
             *before |= mark;
         }
         same("the written map", &before, &written)?;
         same("the source", &untouched, source)?;
         self.loads += 1;
         if self.loads.is_multiple_of(OWN_MAP_EVERY) {
-            same("the original's own map and the addresses that it stored to", &memory.written(), &marks)?;
+            same("the original's own map and the addresses that it stored to", &memory.written(), &counted.marks)?;
         }
-        Ok(Amount { stores: stores.into(), ..Amount::default() })
+        Ok(Amount { stores: counted.stores.into(), made_up: counted.made_up.into(), ..Amount::default() })
     }
 
     fn picture(&mut self, case: &Case, which: Picture, observed: bool) -> Result<Amount, String> {
@@ -183,7 +185,7 @@ impl Workspace {
 }
 
 /// The archive's load.
-fn archive_load(bank: &mut [u8], written: &mut [u8], source: &[u8], case: &Case) -> Result<u32, Refusal> {
+fn archive_load(bank: &mut [u8], written: &mut [u8], source: &[u8], case: &Case) -> Result<Loaded, Refusal> {
     let [a, b, c] = case.numbers;
     match case.call {
         Call::LoadBlock => slices::load_block(bank, written, source, &case.tile, case.image_siz, a, b),
@@ -204,11 +206,10 @@ fn has_load(case: &Case) -> Result<Amount, String> {
     let loaded = Tile { tmem_addr, ..case.tile };
     let (mut bank, mut written) = ([0; 4096], [0; 512]);
     let answer = slices::load_tile(&mut bank, &mut written, &[], &loaded, case.image_siz, rows, words, 8);
-    same_answer(Ok(8 * rows * words), answer)?;
 
     let mut memory = Memory::new(&bank);
     let load = Load::Tile { rows: rows as usize, words: words as usize, stride: 8 };
-    memory.load(&[], &descriptor(&loaded), case.image_siz as u8, load);
+    same_loaded(&memory.load_counted(&[], &descriptor(&loaded), case.image_siz as u8, load), answer)?;
     let yes = memory.tile_has_load(&descriptor(&case.tile), case.tile.mode as u8);
     same_answer(Ok(yes), slices::tile_has_load(&case.tile, &written))?;
     Ok(Amount::default())
@@ -290,6 +291,10 @@ pub fn same_answer<T: PartialEq + std::fmt::Debug>(
         return Ok(());
     }
     Err(format!("the original asks for {original:?}, the archive answers {archive:?}"))
+}
+
+fn same_loaded(original: &Counted, archive: Result<Loaded, Refusal>) -> Result<(), String> {
+    same_answer(Ok(Loaded { count: original.stores, made_up: original.made_up }), archive)
 }
 
 pub fn same(what: &str, original: &[u8], archive: &[u8]) -> Result<(), String> {

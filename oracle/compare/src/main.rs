@@ -144,8 +144,9 @@ fn print(works: &[Work], seed: u64, took: Duration) {
 }
 
 fn words(amount: &Amount) -> String {
-    let Amount { calls, refused, stores, texels, reads } = *amount;
-    let parts = [(refused, "of them refused"), (stores, "stores"), (texels, "texels"), (reads, "reads")];
+    let Amount { calls, refused, stores, made_up, texels, reads } = *amount;
+    let parts =
+        [(refused, "of them refused"), (stores, "stores"), (made_up, "made up"), (texels, "texels"), (reads, "reads")];
     let parts = parts.iter().filter(|(number, _)| *number > 0);
     parts.fold(format!("{:>12} calls", grouped(calls)), |text, (number, name)| {
         format!("{text}, {} {name}", grouped(*number))

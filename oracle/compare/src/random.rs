@@ -1,7 +1,7 @@
 //! Random numbers by a seed, and random cases and runs: near the limits as often as not.
 use crate::capture::place::*;
 use crate::capture::{By, Companion, Record, Run, BLOCK, END_BYTES, KEY, RECORD_BYTES, TILE, TLUT};
-use crate::case::{Call, Case, Fill};
+use crate::case::{Call, Case, Fill, Pieces};
 use crate::input::Input;
 use original::calls::Picture;
 use tulonkasa::Tile;
@@ -86,7 +86,6 @@ impl Random {
         let mut case = Case::new(call, self.tile(texels));
         case.lane = self.to(3);
         case.image_siz = self.to(3);
-        case.source_length = self.near(65536);
         case.surplus = self.pick(&[0, 0, 0, 1, 2, 7, 64, -1, -2]);
         case.fill = self.filling();
         case.seed = self.next();
@@ -103,7 +102,18 @@ impl Random {
         if call == Call::LoadTlut && self.to(1) == 0 {
             case.numbers[1] = 1;
         }
+        case.source_length = self.source_length(case.pieces());
         case
+    }
+
+    /// A source's length: beside what the load asks for, at or inside one of its pieces, or any.
+    fn source_length(&mut self, pieces: Pieces) -> u32 {
+        let length = match self.to(3) {
+            0 => (pieces.end() + self.to(4)).saturating_sub(2),
+            1 => self.to(pieces.count) * pieces.apart + self.to(pieces.bytes),
+            _ => self.near(65536),
+        };
+        length.min(65536)
     }
 
     fn filling(&mut self) -> Fill {

@@ -128,9 +128,9 @@ impl<'a> Original<'a> {
         };
         let source = self.file.part(record.offset(), record.length());
         let image_siz = record.image_siz() as u8;
-        let (stores, marks) = self.memory.load_counted(&source, &descriptor(&tile), image_siz, load);
-        self.written.iter_mut().zip(marks).for_each(|(byte, marks)| *byte |= marks);
-        Ok(stores)
+        let counted = self.memory.load_counted(&source, &descriptor(&tile), image_siz, load);
+        self.written.iter_mut().zip(counted.marks).for_each(|(byte, marks)| *byte |= marks);
+        Ok(counted.stores)
     }
 }
 

@@ -1,5 +1,5 @@
-//! Cases by structure: every pair, mode and lane with the limits of the sizes, and the limits of every load. Runs of records: the
-//! limits of every number, several faults at a time, and sources at the companion's end.
+//! Cases by structure: every pair, mode and lane with the limits of the sizes, the limits of every load, and sources of every length.
+//! Runs of records: the limits of every number, several faults at a time, and sources at the companion's end.
 use crate::capture::place::*;
 use crate::capture::{By, Companion, Record, Run, BLOCK, KEY, RECORD_BYTES, TILE, TLUT};
 use crate::case::{Call, Case, Fill};
@@ -31,6 +31,24 @@ const LARGEST: [[u32; 3]; 4] = [[0, 3, 0], [0, 2, 1], [4, 0, 0], [2, 1, 2]];
 const REPEATS: [[u32; 4]; 7] =
     [[0, 0, 0, 0], [0, 0, 1, 1], [1, 1, 6, 6], [0, 0, 15, 0], [0, 1, 0, 15], [2, 3, 15, 15], [2, 0, 5, 0]];
 
+/// Small loads by their own numbers: a block of even and odd rows, and one of no words; tiles whose rows are the same, share bytes,
+/// follow each other and stand apart; palettes of one row, which go step by step or as entries, and of several.
+const SMALL_LOADS: [(Call, [u32; 3]); 10] = [
+    (Call::LoadBlock, [2048, 3, 0]),
+    (Call::LoadBlock, [2048, 0, 0]),
+    (Call::LoadTile, [3, 2, 0]),
+    (Call::LoadTile, [3, 2, 5]),
+    (Call::LoadTile, [3, 2, 16]),
+    (Call::LoadTile, [3, 2, 19]),
+    (Call::LoadTlut, [9, 1, 0]),
+    (Call::LoadTlut, [3, 3, 4]),
+    (Call::LoadTlut, [3, 3, 6]),
+    (Call::LoadTlut, [3, 3, 9]),
+];
+
+/// Loads that ask for bytes on both sides of the longest source's end.
+const FAR_LOADS: [(Call, [u32; 3]); 2] = [(Call::LoadTile, [2, 2, 65525]), (Call::LoadTlut, [8, 2, 65525])];
+
 pub const PICTURES: [Call; 4] = [
     Call::Picture { which: Picture::Plain, observed: false },
     Call::Picture { which: Picture::Plain, observed: true },
@@ -44,6 +62,7 @@ pub fn cases() -> Vec<Case> {
     tiles(&mut cases);
     buffers(&mut cases);
     loads(&mut cases);
+    cut_sources(&mut cases);
     loads_in_reach(&mut cases);
     banks(&mut cases);
     cases
@@ -126,6 +145,24 @@ fn loads(cases: &mut Vec<Case>) {
         cases.push(largest(Call::LoadBlock, [4095, 2048, 0]));
         cases.push(largest(Call::LoadTile, [1024, 512, 64]));
         cases.push(largest(Call::LoadTlut, [1024, 1024, 31]));
+    }
+}
+
+/// Small loads in all pairs and image sizes, from sources of every length up to some bytes more than they ask for; and from the two
+/// longest, which other loads ask for more than.
+fn cut_sources(cases: &mut Vec<Case>) {
+    for pair in 0..32 {
+        for image_siz in 0..4 {
+            let tile = Tile { fmt: pair / 4, siz: pair % 4, line: 2, tmem_addr: 250, ..Tile::default() };
+            let of = |(call, numbers)| Case { image_siz, numbers, ..Case::new(call, tile) };
+            for case in SMALL_LOADS.map(of) {
+                let lengths = 0..case.pieces().end() + 4;
+                cases.extend(lengths.map(|source_length| Case { source_length, ..case }));
+            }
+            for case in SMALL_LOADS.into_iter().chain(FAR_LOADS).map(of) {
+                cases.extend([65535, 65536].map(|source_length| Case { source_length, ..case }));
+            }
+        }
     }
 }
 

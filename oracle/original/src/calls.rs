@@ -20,6 +20,15 @@ pub enum Load {
     Tlut { count: usize, rows: usize, stride: usize },
 }
 
+/// What a load did.
+pub struct Counted {
+    pub stores: u32,
+    /// How many of the stores have a place in the source that is at or past its length.
+    pub made_up: u32,
+    /// A mark at each address that was stored to.
+    pub marks: Map,
+}
+
 /// The original's texture memory.
 pub struct Memory {
     tmem: Tmem,
@@ -46,13 +55,13 @@ impl Memory {
         self.tmem.load(source, tile, image_siz, load);
     }
 
-    /// A load, with the count of its stores and a mark at each address that it stored to.
-    pub fn load_counted(&mut self, source: &[u8], tile: &TileDescriptor, image_siz: u8, load: Load) -> (u32, Map) {
-        let copy = Arc::new(FramebufferCopy::default());
+    /// A load, and what it did.
+    pub fn load_counted(&mut self, source: &[u8], tile: &TileDescriptor, image_siz: u8, load: Load) -> Counted {
+        let copy = Arc::new(FramebufferCopy::of_source(source.len()));
         self.tmem.framebuffer_tags = None;
         self.tmem.copy_load(copy.clone(), |tmem| tmem.load(source, tile, image_siz, load));
         let tags = self.tmem.framebuffer_tags.take().unwrap_or_default();
-        (copy.stores.get(), tagged(&tags))
+        Counted { stores: copy.stores.get(), made_up: copy.made_up.get(), marks: tagged(&tags) }
     }
 
     /// The map of written addresses, which is the memory's own and is read from how it prints itself.

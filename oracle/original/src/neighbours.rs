@@ -42,8 +42,9 @@ pub(crate) mod profiling {
     }
 }
 
-/// Tags of bytes that a framebuffer was copied to. The original asks a copy for a pointer at every store of a load, which is
-/// how [`crate::calls`] counts the stores and learns their addresses.
+/// Tags of bytes that a framebuffer was copied to. The original asks a copy for a pointer at every store of a load, and names
+/// the store's place in the source. That is how [`crate::calls`] counts the stores and learns their addresses, and counts those
+/// whose place is past the source's end.
 pub(crate) mod framebuffer_load {
     use super::render::framebuffers::targets::ImageDescriptor;
     use std::cell::Cell;
@@ -51,7 +52,9 @@ pub(crate) mod framebuffer_load {
 
     #[derive(Clone, Debug, Default, PartialEq)]
     pub struct FramebufferCopy {
+        source_length: usize,
         pub stores: Cell<u32>,
+        pub made_up: Cell<u32>,
     }
 
     impl FramebufferCopy {
@@ -59,8 +62,15 @@ pub(crate) mod framebuffer_load {
             Self::default()
         }
 
+        /// For a load from a source of this length.
+        pub fn of_source(source_length: usize) -> Self {
+            Self { source_length, ..Self::default() }
+        }
+
         pub fn pointer(&self, offset: u32) -> u32 {
+            let past_end = offset as usize >= self.source_length;
             self.stores.set(self.stores.get() + 1);
+            self.made_up.set(self.made_up.get() + u32::from(past_end));
             offset
         }
     }

@@ -41,7 +41,8 @@ struct Input {
 struct Outcome {
     refusal: u16,
     number: u32,
-    extent: [u16; 2],
+    /// A load's made-up count; or an extent, the width in the high half.
+    second: u32,
     digests: [u32; 2],
 }
 
@@ -81,8 +82,8 @@ impl Input {
         match self.kind {
             KIND_BLOCK | KIND_TILE | KIND_TLUT => self.load(),
             KIND_SAMPLING => {
-                let (flag, extent) = calls::sampling(&self.tile, self.mode);
-                Outcome { number: flag, extent: extent.map(|side| side as u16), ..Outcome::default() }
+                let (flag, [width, height]) = calls::sampling(&self.tile, self.mode);
+                Outcome { number: flag, second: width << 16 | height, ..Outcome::default() }
             }
             KIND_SAMPLE_TILE..KIND_REACH => self.picture(),
             KIND_REACH => {
@@ -115,10 +116,11 @@ impl Input {
         };
         let source = made(self.seed, 2, self.source_length as usize);
         let mut memory = Memory::new(&self.bank());
-        let (stores, marks) = memory.load_counted(&source, &self.tile, self.image_siz, load);
+        let counted = memory.load_counted(&source, &self.tile, self.image_siz, load);
         let mut written = self.written();
-        written.iter_mut().zip(marks).for_each(|(byte, mark)| *byte |= mark);
-        Outcome { number: stores, digests: [digest(&memory.bytes()[..]), digest(&written)], ..Outcome::default() }
+        written.iter_mut().zip(counted.marks).for_each(|(byte, mark)| *byte |= mark);
+        let digests = [digest(&memory.bytes()[..]), digest(&written)];
+        Outcome { number: counted.stores, second: counted.made_up, digests, ..Outcome::default() }
     }
 
     fn picture(&self) -> Outcome {
@@ -177,9 +179,7 @@ fn record(input: &Input, outcome: &Outcome) -> [u8; 64] {
     let words = [input.seed, input.source_length, input.picture_length, input.trail_length];
     words.iter().for_each(|word| bytes.extend(word.to_be_bytes()));
     bytes.extend(outcome.refusal.to_be_bytes());
-    bytes.extend(outcome.number.to_be_bytes());
-    outcome.extent.iter().for_each(|half| bytes.extend(half.to_be_bytes()));
-    outcome.digests.iter().for_each(|word| bytes.extend(word.to_be_bytes()));
+    [outcome.number, outcome.second].iter().chain(&outcome.digests).for_each(|word| bytes.extend(word.to_be_bytes()));
     bytes.try_into().expect("64 bytes")
 }
 
@@ -207,6 +207,20 @@ const SHAPES: [[u16; 4]; 12] = [
 
 /// cms, cmt, masks, maskt.
 const REPEATS: [[u8; 4]; 6] = [[0, 0, 0, 0], [0, 0, 1, 1], [1, 1, 4, 3], [0, 1, 15, 0], [0, 0, 0, 15], [2, 3, 15, 15]];
+
+/// Small loads: kind, image size, the load's own numbers, and how many source bytes it asks for. A block of even and odd rows;
+/// tiles whose rows share bytes, follow each other and stand apart; palettes step by step; and by rows, one and two.
+const SMALL_LOADS: [(u8, u8, [u16; 3], u32); 9] = [
+    (KIND_BLOCK, 2, [2048, 3, 0], 24),
+    (KIND_TILE, 2, [2, 1, 3], 11),
+    (KIND_TILE, 2, [2, 1, 8], 16),
+    (KIND_TILE, 2, [2, 1, 10], 18),
+    (KIND_TLUT, 1, [9, 1, 0], 10),
+    (KIND_TLUT, 2, [3, 1, 0], 6),
+    (KIND_TLUT, 3, [3, 1, 0], 10),
+    (KIND_TLUT, 0, [3, 1, 0], 6),
+    (KIND_TLUT, 2, [2, 2, 3], 7),
+];
 
 /// The place in [`SHAPES`] for a count.
 fn shape(count: usize) -> usize {
@@ -297,6 +311,22 @@ impl List {
         }
     }
 
+    /// Small loads from sources of every length, to a byte more than they ask for, in pairs whose words stay together (0,2) and go
+    /// to both halves (0,3), (1,2). And loads that ask for bytes past the longest source.
+    fn cut_sources(&mut self) {
+        for pair in [2, 3, 6] {
+            for (kind, image_siz, numbers, asked) in SMALL_LOADS {
+                for source_length in 0..=asked + 1 {
+                    self.load(kind, pair, image_siz, numbers, source_length);
+                }
+            }
+        }
+        for source_length in 65534..=65536 {
+            self.load(KIND_TILE, 2, 2, [2, 1, 65529], source_length);
+            self.load(KIND_TLUT, 2, 2, [4, 2, 65529], source_length);
+        }
+    }
+
     fn load(&mut self, kind: u8, pair: u8, image_siz: u8, numbers: [u16; 3], source_length: u32) {
         let count = self.count() as u16;
         let line = [0, 1, 511, count % 512][usize::from(count % 4)];
@@ -323,6 +353,7 @@ fn main() -> std::io::Result<()> {
     list.lookups();
     list.loads();
     list.lanes();
+    list.cut_sources();
 
     let reach = Reach::default();
     let title = "tulonkasa answers, by oracle/record from fast3d-rs dbd8d8c9d8\n";
