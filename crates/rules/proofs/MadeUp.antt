@@ -14,9 +14,10 @@ use borrow.Author.Tests.{le-leb, lt-leb, lt-ltb, le-ltb}
 use Rattle.rules.specs.Base.{one, tab, tabFrom, concat, any, howMany}
 use Rattle.rules.specs.Refusal.{Test, first, settle, call}
 use Rattle.rules.specs.Calls.{loaded}
-use Rattle.rules.specs.Load.{Store, store, LoadTile, imageTile, halfword, base, firstSpot, oddSpot, list4, splits, upper, splitAt}
+use Rattle.rules.specs.Load.{Store, store, LoadTile, imageTile, halfword, base, firstSpot, oddSpot, list4, splits, upper}
 use Rattle.rules.specs.Load.{splitStores, wholeStores, wordStores, wordColumns, blockStores, tileRow, tileStores, advance, steps}
 use Rattle.rules.specs.Load.{hardwareStores, entryStores, entryRow, rowStores, stored, written, madeUp, wordMadeUp}
+use Rattle.rules.proofs.Loads.{splitBy}
 
 -- of how many in a list f holds
 module _ {A : Type 0} (f : A → Bool) where
@@ -99,6 +100,12 @@ padded src n [] bank = refl
 padded src n (s ∷ l) bank =
     padded src n l _ ∙ ap (λ b. stored src l (set bank (s .at) b)) (padded-byte src n (s .from))
 
+-- and so is what a load leaves, where neither is refused
+pub padded-load : (tests tests′ : List Test) (l : List Store) (bank map src : List ℕ) (n : ℕ) → first tests ≡ 0 → first tests′ ≡ 0
+    → loaded tests l bank map (src ++ replicate n 0) .buffers ≡ loaded tests′ l bank map src .buffers
+unfolding call settle
+padded-load tests tests′ l bank map src n z z′ = rw (z, z′, padded src n l bank)
+
 -- a store takes its byte from the padding of a source of `size` bytes to n more
 abbrev pub inPadding : ℕ → ℕ → Store → Bool
 inPadding size n s = past size s && ltb (s .from) (size + n)
@@ -160,13 +167,7 @@ split-made-up : (size : ℕ) (t : LoadTile) (l : List ℕ) (start : ℕ) (from :
 unfolding splitStores concat tab tabFrom madeUp howMany wordMadeUp
 split-made-up size t l start from = go (eqb (t .fmt) 1)
   where
-    both : Bool → ℕ → List Store
-    both b i =
-        store (splitAt l start i) (from (getD (cond b (0 ∷ 2 ∷ 4 ∷ 6 ∷ []) (0 ∷ 1 ∷ 4 ∷ 5 ∷ [])) i 0))
-        ∷ store (splitAt l start i + 2048) (from (getD (cond b (1 ∷ 3 ∷ 5 ∷ 7 ∷ []) (2 ∷ 3 ∷ 6 ∷ 7 ∷ [])) i 0))
-        ∷ []
-
-    go : (b : Bool) → madeUp size (concat (tab 4 (both b))) ≡ wordMadeUp size from
+    go : (yuv : Bool) → madeUp size (splitBy yuv l start from) ≡ wordMadeUp size from
     go true = refl
     go false = pairs-split (λ k. one (leb size (from k)))
 

@@ -1,6 +1,6 @@
 -- A word's eight bytes: as one number, and taken from a source before they are stored.
 use mathlib.Core.Path.{_≡_, refl, ap, sym, _∙_}
-use mathlib.Core.Bool.{Bool, true, false, cond}
+use mathlib.Core.Bool.{Bool, true, false}
 use mathlib.Core.List.{List, [], _∷_}
 use Prim.Native.Nat.{ℕ, zero, suc, _+_, _*_, _/_, _%_, _<_}
 use native.Mathlib.Nat.{zero-add, add-zero, add-mul-div-left, div-eq-of-lt}
@@ -8,8 +8,9 @@ use native.Mathlib.Omega.{arith}
 use lib.Dec.{eqb}
 use lib.ListN.{getD, set}
 use Rattle.rules.specs.Base.{tab, tabFrom, concat, marks}
-use Rattle.rules.specs.Load.{Store, store, LoadTile, splitAt, splitStores, wholeStores, stored, written}
+use Rattle.rules.specs.Load.{store, LoadTile, splitStores, wholeStores, stored, written}
 use Rattle.rules.proofs.Tables.{getD-tab}
+use Rattle.rules.proofs.Loads.{splitBy}
 use Rattle.tmem.specs.Part.{placeOf, halfStores, byteIn, bytesIn, sourceBytes, CarriedOut}
 
 -- the number of eight bytes, and its bytes
@@ -76,14 +77,7 @@ module _ (src : List ℕ) (from : ℕ → ℕ) {bank map bank′ map′ : List �
   unfolding splitStores concat tab tabFrom stored written marks
   split-taken t l start p = record { bank-is = p .bank-is ∙ go (eqb (t .fmt) 1); map-is = p .map-is }
     where
-      both : (ℕ → ℕ) → Bool → ℕ → List Store
-      both place b i =
-          store (splitAt l start i) (place (getD (cond b (0 ∷ 2 ∷ 4 ∷ 6 ∷ []) (0 ∷ 1 ∷ 4 ∷ 5 ∷ [])) i 0))
-          ∷ store (splitAt l start i + 2048) (place (getD (cond b (1 ∷ 3 ∷ 5 ∷ 7 ∷ []) (2 ∷ 3 ∷ 6 ∷ 7 ∷ [])) i 0))
-          ∷ []
-
-      go : (b : Bool)
-          → stored (sourceBytes src from) (concat (tab 4 (both (λ k. k) b))) bank ≡ stored src (concat (tab 4 (both from b))) bank
+      go : (yuv : Bool) → stored (sourceBytes src from) (splitBy yuv l start (λ k. k)) bank ≡ stored src (splitBy yuv l start from) bank
       go true = refl
       go false = refl
 

@@ -10,7 +10,8 @@ use lib.Dec.{eqb}
 use lib.ListN.{length, getD}
 use Rattle.rules.specs.Base.{tab, tabFrom, concat}
 use Rattle.rules.specs.Load.{Store, store, LoadTile, halfword, base, firstSpot, oddSpot, list4, splits, upper}
-use Rattle.rules.specs.Load.{splitAt, splitStores, wholeStores, wordStores}
+use Rattle.rules.specs.Load.{splitStores, wholeStores, wordStores}
+use Rattle.rules.proofs.Loads.{splitBy}
 use Rattle.tmem.specs.Part.{Spots, halfStores, splitStep, CarriedOut}
 use Rattle.tmem.proofs.Carry.{exchanged}
 use Rattle.tmem.proofs.Indices.{start-below}
@@ -42,14 +43,7 @@ pub split-is : (t : LoadTile) (l : List ℕ) (start : ℕ) (from : ℕ → ℕ)
 unfolding splitStores concat tab tabFrom
 split-is t l start from = go (eqb (t .fmt) 1)
   where
-    byte : ℕ → List ℕ → List ℕ → List Store
-    byte i low high =
-        store (splitAt l start i) (from (getD low i 0))
-        ∷ store (splitAt l start i + 2048) (from (getD high i 0))
-        ∷ []
-
-    go : (b : Bool) → concat (tab 2 (splitTurn (cond b 2 1) l start from))
-        ≡ concat (tab 4 (λ i. byte i (cond b (0 ∷ 2 ∷ 4 ∷ 6 ∷ []) (0 ∷ 1 ∷ 4 ∷ 5 ∷ [])) (cond b (1 ∷ 3 ∷ 5 ∷ 7 ∷ []) (2 ∷ 3 ∷ 6 ∷ 7 ∷ []))))
+    go : (yuv : Bool) → concat (tab 2 (splitTurn (cond yuv 2 1) l start from)) ≡ splitBy yuv l start from
     go true = rw (add-zero (getD l (start + 0) 0), add-zero (getD l (start + 1) 0))
     go false = rw (add-zero (getD l (start + 0) 0), add-zero (getD l (start + 1) 0))
 

@@ -1,4 +1,4 @@
--- Names for what the parts of a load take and do, and the declared record of a load's fields as the rules have it. They
+-- Names for what the parts of a load take, do and count, and the declared record of a load's fields as the rules have it. They
 -- give nothing a meaning.
 use mathlib.Core.Path.{_≡_}
 use mathlib.Core.Bool.{Bool, cond, _||_}
@@ -26,7 +26,7 @@ pub record Lent (bank map : List ℕ) : Type 0 where
 abbrev pub placeOf : ℕ → Bool → ℕ → ℕ
 placeOf source replicate k = source + cond replicate (k % 2) k
 
--- the two stores of the halfword at address a, from their places in the source
+-- the two stores of the halfword at address a, from places p and q
 abbrev pub halfStores : ℕ → ℕ → ℕ → List Store
 halfStores a p q = store a p ∷ store (a + 1) q ∷ []
 

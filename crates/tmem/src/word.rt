@@ -64,7 +64,8 @@ fn write_split_word(
     }
 }
 
-// The two bytes of a word that its place k of the list receives, in a word that goes to one half of the bank.
+// The two bytes that place k of the list receives, of a word that goes to one half of the bank: on odd rows those of place k xor 2.
+// Either case names its bytes, so that the compiler shifts the word by constants.
 fn write_whole_place(
     bank: &mut [u8],
     written: &mut [u8],
