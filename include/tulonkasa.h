@@ -66,7 +66,8 @@ typedef struct tk_answer {
     uint32_t count;
 } tk_answer;
 
-/* count: a load's stores. made_up: how many of their bytes no source had: zeros in place of bytes at or past the source's end.
+/* count: a load's stores. made_up: how many of their bytes the source did not have: zeros in place of bytes at or past
+ * its end.
  * At 0 every stored byte came from the source; above 0 the load asks for more than the source has, as where a capture cut it
  * short. A byte that is stored several times over, as a palette's are, counts each time. made_up is never above count; both
  * are 0 where the load is refused. */

@@ -192,35 +192,39 @@ static void check_lengths(void) {
     CHECK(tk_sampling_lookup_observed_of(bank, t, 0, picture, sizeof picture, trail, 32767).refusal == 7);
 }
 
+/* What the pictures answer and leave on success, of a bank whose bytes are their addresses. */
+static void check_picture_answers(const tk_tile *tile) {
+    /* Row 0 reads 16, 17, 18; row 1 reads 24 to 26 with bit 4 the other way round: 28, 29, 30. */
+    static const uint8_t texels[] = {16, 16, 16, 16, 17, 17, 17, 17, 18, 18, 18, 18,
+                                     28, 28, 28, 28, 29, 29, 29, 29, 30, 30, 30, 30};
+    static const uint8_t reads[] = {0, 16, 0, 17, 0, 18, 0, 28, 0, 29, 0, 30};
+    tk_answer answer = tk_sample_tile_of(bank, tile, 0, picture, sizeof picture);
+    CHECK(answer.refusal == 0 && answer.count == 6 && memcmp(picture, texels, sizeof texels) == 0);
+    memset(picture, 0, sizeof picture);
+    answer = tk_sample_tile_observed_of(bank, tile, 0, picture, sizeof picture, trail, sizeof trail);
+    CHECK(answer.refusal == 0 && answer.count == 6 && memcmp(picture, texels, sizeof texels) == 0);
+    CHECK(memcmp(trail, reads, sizeof reads) == 0);
+
+    answer = tk_sampling_lookup_of(bank, tile, 0, picture, sizeof picture);
+    CHECK(answer.refusal == 0 && answer.count == TK_LOOKUP_TEXELS && picture[0] == 16 && picture[4 * 8192] == 20);
+    memset(picture, 0, sizeof picture);
+    answer = tk_sampling_lookup_observed_of(bank, tile, 0, picture, sizeof picture, trail, sizeof trail);
+    CHECK(answer.refusal == 0 && answer.count == TK_LOOKUP_TEXELS && picture[0] == 16 && picture[4 * 8192] == 20);
+    CHECK(trail[1] == 16 && trail[2 * 8192 + 1] == 20);
+}
+
 /* What each entry but the loads and the replay answers and leaves on success. */
 static void check_answers(void) {
     tk_tile tile = plain_tile();
     for (uint32_t i = 0; i < TK_BANK_BYTES; i++) bank[i] = (uint8_t)i;
     memset(written, 0, sizeof written);
+    check_picture_answers(&tile);
 
     tk_sampling_answer sampling = tk_sampling_of(&tile);
     CHECK(sampling.refusal == 0 && sampling.flag == 0 && sampling.width == 3 && sampling.height == 2);
     tk_tile repeating = with(with(tile, 4, 0), 6, 15);
     sampling = tk_sampling_of(&repeating);
     CHECK(sampling.refusal == 0 && sampling.flag == 1 && sampling.width == 4096 && sampling.height == 4);
-
-    /* Row 0 reads 16, 17, 18; row 1 reads 24 to 26 with bit 4 the other way round: 28, 29, 30. */
-    static const uint8_t texels[] = {16, 16, 16, 16, 17, 17, 17, 17, 18, 18, 18, 18,
-                                     28, 28, 28, 28, 29, 29, 29, 29, 30, 30, 30, 30};
-    static const uint8_t reads[] = {0, 16, 0, 17, 0, 18, 0, 28, 0, 29, 0, 30};
-    tk_answer answer = tk_sample_tile_of(bank, &tile, 0, picture, sizeof picture);
-    CHECK(answer.refusal == 0 && answer.count == 6 && memcmp(picture, texels, sizeof texels) == 0);
-    memset(picture, 0, sizeof picture);
-    answer = tk_sample_tile_observed_of(bank, &tile, 0, picture, sizeof picture, trail, sizeof trail);
-    CHECK(answer.refusal == 0 && answer.count == 6 && memcmp(picture, texels, sizeof texels) == 0);
-    CHECK(memcmp(trail, reads, sizeof reads) == 0);
-
-    answer = tk_sampling_lookup_of(bank, &tile, 0, picture, sizeof picture);
-    CHECK(answer.refusal == 0 && answer.count == TK_LOOKUP_TEXELS && picture[0] == 16 && picture[4 * 8192] == 20);
-    memset(picture, 0, sizeof picture);
-    answer = tk_sampling_lookup_observed_of(bank, &tile, 0, picture, sizeof picture, trail, sizeof trail);
-    CHECK(answer.refusal == 0 && answer.count == TK_LOOKUP_TEXELS && picture[0] == 16 && picture[4 * 8192] == 20);
-    CHECK(trail[1] == 16 && trail[2 * 8192 + 1] == 20);
 
     CHECK(tk_reach_of(&tile, map) == 0 && tk_is_marked(map, 16) && tk_is_marked(map, 30) && !tk_is_marked(map, 19));
     tk_yes_answer yes = tk_tile_has_load_of(&tile, written);
@@ -229,7 +233,7 @@ static void check_answers(void) {
     yes = tk_tile_has_load_of(&tile, written);
     CHECK(yes.refusal == 0 && yes.yes == 1);
 
-    answer = tk_key_of(bank, &tile, 0, key);
+    tk_answer answer = tk_key_of(bank, &tile, 0, key);
     CHECK(answer.refusal == 0 && answer.count == 6 && key[16] == 16 && key[30] == 30 && key[19] == 0 && key[4095] == 0);
 
     CHECK(tk_palette_nonreplicated_of(bank, lanes) == 0 && lanes[0] == 255 && lanes[31] == 255);

@@ -3,8 +3,8 @@
  *     rough SECONDS SEED [CALLS]      until the time is up, or for so many calls
  *
  * Each buffer lies against a page that cannot be touched, at its end or at its start, so that the archive cannot reach
- * outside it unseen. After each call its refusal and its counts are held against the tables of documents 01 and 02, worked out
- * here on their own, its other answers against 0 where it refused, and every byte that must not have changed against a copy. */
+ * outside it unseen. After each call its refusal and its counts are held against what documents 01 and 02 say, worked out here
+ * on their own, its other answers against 0 where it refused, and every byte that must not have changed against a copy. */
 
 #include <stdbool.h>
 #include <stdio.h>

@@ -1,6 +1,6 @@
 // What the public calls answer: a refusal, 0 for none, and the call's numbers, all 0 where it refused.
 
-// A picture's count of reads, a key's count of kept bytes, a replayed record's count of either.
+// A picture's count of reads, a key's count of kept bytes, a replayed record's count of stores or of kept bytes.
 #[repr(C)]
 pub struct Answer {
     pub refusal: u32,

@@ -1,15 +1,15 @@
 -- The first refusal of a record, and of the call for one record, by the tests that led there.
 use mathlib.Core.Path.{_≡_, refl, sym, _∙_}
 use mathlib.Core.Bool.{Bool, true, false, not, _&&_}
-use mathlib.Core.List.{List, [], _∷_, _++_}
+use mathlib.Core.List.{List, [], _∷_}
 use Prim.Native.Nat.{ℕ, _+_, _<_, _≤_}
 use lib.Dec.{ltb}
 use lib.ListN.{length}
 use borrow.Author.Tests.{lt-ltb, le-ltb}
-use Rattle.rules.specs.Refusal.{Test, first}
+use Rattle.rules.specs.Refusal.{first}
 use Rattle.rules.specs.Calls.{numberTests}
 use Rattle.rules.specs.Replay.{replaySize, kindIn, tileIn, imageIn, offsetIn, sizeIn, asksKey, outsideIn, beyond, recordTests}
-use Rattle.rules.specs.Replay.{shortPart}
+use Rattle.rules.specs.Replay.{shortPart, ownTests}
 use Rattle.rules.proofs.Refused.{numbered, first-before, first-after}
 use Rattle.rules.proofs.ReplayTests.{keyTestsIn, loadTestsIn, tests-numbered}
 
@@ -55,10 +55,7 @@ pub short-is : (part r : List ℕ) (key : Bool) (size : ℕ) → key ≡ asksKey
     → (not key && ltb (length part) size) ≡ shortPart part r .fails
 short-is part r key size k e = rw (k, e)
 
--- the call's tests after those of bank and map: the record's own, and the part's
-abbrev pub ownTests : ℕ → List ℕ → List ℕ → List Test
-ownTests end r part = recordTests end r ++ (shortPart part r ∷ [])
-
+-- the call's tests after those of bank and map
 module _ (end : ℕ) (r part : List ℕ) (n : ℕ) (is : n ≡ first (recordTests end r)) where
   pub by-record : (n ≡ 0 → ⊥) → n ≡ first (ownTests end r part)
   by-record = first-before (recordTests end r) (shortPart part r ∷ []) n (tests-numbered end r) is

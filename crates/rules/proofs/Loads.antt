@@ -1,11 +1,13 @@
--- Laws of stores: they are carried out list after list, and keep the bank's length; a split word's, by its format.
+-- Laws of stores: they are carried out list after list, and keep the bank's length; a word's, by its shape.
 use mathlib.Core.Path.{_≡_, refl, ap, _∙_}
-use mathlib.Core.Bool.{Bool, cond}
+use mathlib.Core.Bool.{Bool, true, false, cond}
 use mathlib.Core.List.{List, [], _∷_, _++_}
-use Prim.Native.Nat.{ℕ, _+_}
+use Prim.Native.Nat.{ℕ, _+_, _*_, _%_}
+use lib.Bits.{bitAnd, bitXor}
 use lib.ListN.{length, getD, length-set}
 use Rattle.rules.specs.Base.{tab, concat}
-use Rattle.rules.specs.Load.{Store, store, splitAt, stored, addresses, written}
+use Rattle.rules.specs.Load.{Store, store, LoadTile, halfword, base, firstSpot, oddSpot, list4, splits, upper, splitAt}
+use Rattle.rules.specs.Load.{splitStores, wholeStores, wordStores, stored, addresses, written}
 use Rattle.rules.proofs.Maps.{marks-append, length-marks}
 
 pub stored-append : (src : List ℕ) (l m : List Store) (bank : List ℕ) → stored src (l ++ m) bank ≡ stored src m (stored src l bank)
@@ -37,3 +39,24 @@ splitBy yuv l start from =
     store (splitAt l start i) (from (getD (cond yuv (0 ∷ 2 ∷ 4 ∷ 6 ∷ []) (0 ∷ 1 ∷ 4 ∷ 5 ∷ [])) i 0))
     ∷ store (splitAt l start i + 2048) (from (getD (cond yuv (1 ∷ 3 ∷ 5 ∷ 7 ∷ []) (2 ∷ 3 ∷ 6 ∷ 7 ∷ [])) i 0))
     ∷ []))
+
+-- what holds of a word's stores in either shape, at any places, holds of them
+pub either-shape : (t : LoadTile) (s row : ℕ) (from : ℕ → ℕ) (P : List Store → Type 0)
+    → ((l : List ℕ) (start : ℕ) → P (splitStores t l start from))
+    → ((l : List ℕ) (high : ℕ) → P (wholeStores l high (row % 2 * 2) from))
+    → P (wordStores t s row from)
+unfolding wordStores
+either-shape t s row from P split whole = go (splits t)
+  where
+    h : ℕ
+    h = halfword t s
+
+    f : ℕ
+    f = firstSpot (base t row) h
+
+    o : ℕ
+    o = oddSpot row
+
+    go : (b : Bool) → P (cond b (splitStores t (list4 f o) (bitXor (bitAnd h 2) o) from) (wholeStores (list4 f o) (upper f) o from))
+    go true = split (list4 f o) (bitXor (bitAnd h 2) o)
+    go false = whole (list4 f o) (upper f)

@@ -1,23 +1,22 @@
 -- What a load makes up, document 02's item 2: it is at most the count, and 0 where every place is inside the source; the bank is that of
 -- the source padded with zeros, and what is made up was asked of the padding; words and rows add up.
 use mathlib.Core.Path.{_≡_, refl, ap, sym, _∙_}
-use mathlib.Core.Bool.{Bool, true, false, cond, _&&_, _||_, true≢false}
+use mathlib.Core.Bool.{Bool, true, false, _&&_, _||_, true≢false}
 use mathlib.Core.List.{List, [], _∷_, _++_}
 use Prim.Native.Nat.{ℕ, zero, suc, _+_, _*_, _/_, _%_, _≤_, _<_, _^_}
 use native.Mathlib.Nat.{add-assoc, zero-add}
 use native.Mathlib.Omega.{arith}
 use native.Mathlib.Decide.{decLt}
-use lib.Bits.{bitAnd, bitXor}
 use lib.Dec.{eqb, ltb, leb}
 use lib.ListN.{length, getD, set, replicate}
 use borrow.Author.Tests.{le-leb, lt-leb, lt-ltb, le-ltb}
 use Rattle.rules.specs.Base.{one, tab, tabFrom, concat, any, howMany}
 use Rattle.rules.specs.Refusal.{Test, first, settle, call}
 use Rattle.rules.specs.Calls.{loaded}
-use Rattle.rules.specs.Load.{Store, store, LoadTile, imageTile, halfword, base, firstSpot, oddSpot, list4, splits, upper}
-use Rattle.rules.specs.Load.{splitStores, wholeStores, wordStores, wordColumns, blockStores, tileRow, tileStores, advance, steps}
-use Rattle.rules.specs.Load.{hardwareStores, entryStores, entryRow, rowStores, stored, written, madeUp, wordMadeUp}
-use Rattle.rules.proofs.Loads.{splitBy}
+use Rattle.rules.specs.Load.{Store, store, LoadTile, imageTile, splitStores, wholeStores, wordStores, wordColumns, blockStores}
+use Rattle.rules.specs.Load.{tileRow, tileStores, advance, steps, hardwareStores, entryStores, entryRow, rowStores, stored, written}
+use Rattle.rules.specs.Load.{madeUp, wordMadeUp}
+use Rattle.rules.proofs.Loads.{splitBy, either-shape}
 
 -- of how many in a list f holds
 module _ {A : Type 0} (f : A → Bool) where
@@ -36,19 +35,19 @@ module _ {A : Type 0} (f : A → Bool) where
       go true h = omega (arith, h)
       go false h = omega (arith, h)
 
-  none-holds : (l : List A) → any f l ≡ false → howMany f l ≡ 0
+  none-then-zero : (l : List A) → any f l ≡ false → howMany f l ≡ 0
   unfolding howMany any
-  none-holds [] h = refl
-  none-holds (x ∷ l) h = go (f x) h (none-holds l)
+  none-then-zero [] h = refl
+  none-then-zero (x ∷ l) h = go (f x) h (none-then-zero l)
     where
       go : (b : Bool) → (b || any f l) ≡ false → (any f l ≡ false → howMany f l ≡ 0) → one b + howMany f l ≡ 0
       go true e ih = absurd (true≢false e)
       go false e ih = ap (λ k. 0 + k) (ih e)
 
-  holds-of-none : (l : List A) → howMany f l ≡ 0 → any f l ≡ false
+  zero-then-none : (l : List A) → howMany f l ≡ 0 → any f l ≡ false
   unfolding howMany any
-  holds-of-none [] h = refl
-  holds-of-none (x ∷ l) h = go (f x) h (holds-of-none l)
+  zero-then-none [] h = refl
+  zero-then-none (x ∷ l) h = go (f x) h (zero-then-none l)
     where
       go : (b : Bool) → one b + howMany f l ≡ 0 → (howMany f l ≡ 0 → any f l ≡ false) → (b || any f l) ≡ false
       go true e ih = absurd (omega (arith, e))
@@ -80,11 +79,11 @@ load-within tests l bank map src = go (first tests)
 -- it is 0 exactly where every place is inside the source
 pub all-inside : (size : ℕ) (l : List Store) → any (past size) l ≡ false → madeUp size l ≡ 0
 unfolding madeUp
-all-inside size l h = none-holds (past size) l h
+all-inside size l h = none-then-zero (past size) l h
 
 pub none-past : (size : ℕ) (l : List Store) → madeUp size l ≡ 0 → any (past size) l ≡ false
 unfolding madeUp
-none-past size l h = holds-of-none (past size) l h
+none-past size l h = zero-then-none (past size) l h
 
 -- The bank is that of the source padded with zeros to any greater length.
 padded-byte : (src : List ℕ) (n i : ℕ) → getD (src ++ replicate n 0) i 0 ≡ getD src i 0
@@ -172,23 +171,9 @@ split-made-up size t l start from = go (eqb (t .fmt) 1)
     go false = pairs-split (λ k. one (leb size (from k)))
 
 pub word-made-up : (size : ℕ) (t : LoadTile) (s row : ℕ) (from : ℕ → ℕ) → madeUp size (wordStores t s row from) ≡ wordMadeUp size from
-unfolding wordStores
-word-made-up size t s row from = go (splits t)
-  where
-    h : ℕ
-    h = halfword t s
-
-    f : ℕ
-    f = firstSpot (base t row) h
-
-    o : ℕ
-    o = oddSpot row
-
-    go : (b : Bool)
-        → madeUp size (cond b (splitStores t (list4 f o) (bitXor (bitAnd h 2) o) from) (wholeStores (list4 f o) (upper f) o from))
-        ≡ wordMadeUp size from
-    go true = split-made-up size t _ _ from
-    go false = whole-made-up size _ _ (row % 2) from (omega arith)
+word-made-up size t s row from =
+    either-shape t s row from (λ l. madeUp size l ≡ wordMadeUp size from) (λ l start. split-made-up size t l start from)
+    (λ l high. whole-made-up size l high (row % 2) from (omega arith))
 
 -- so do an entry's, whose places alternate
 pub entry-made-up : (size at source : ℕ)

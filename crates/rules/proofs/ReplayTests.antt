@@ -1,7 +1,7 @@
 -- What the tests of a replay's record leave where none fails, and the calls by their tests.
 use mathlib.Core.Path.{_≡_, refl, ap, sym, _∙_}
 use mathlib.Core.Bool.{Bool, true, false, cond}
-use mathlib.Core.List.{List, [], _∷_, _++_}
+use mathlib.Core.List.{List, [], _∷_}
 use Prim.Native.Nat.{ℕ, _≤_}
 use native.Mathlib.Omega.{arith}
 use lib.Dec.{ltb}
@@ -13,7 +13,7 @@ use Rattle.rules.specs.Key.{keptCount}
 use Rattle.rules.specs.Refusal.{Test, _if_, first, settle, call}
 use Rattle.rules.specs.Calls.{sourceOutside, numberTests, pairTests, unknownPair}
 use Rattle.rules.specs.Replay.{replaySize, kindIn, laneIn, tileIn, modeIn, imageIn, sizeIn, asksKey, storesIn, outsideIn}
-use Rattle.rules.specs.Replay.{beyond, recordTests, carried, countOf, left, outcome, partOf, shortPart, replayTests}
+use Rattle.rules.specs.Replay.{beyond, recordTests, carried, countOf, left, outcome, partOf, shortPart, ownTests, replayTests}
 use Rattle.rules.specs.Replay.{replayCall}
 use Rattle.rules.proofs.Ranges.{neither}
 use Rattle.rules.proofs.Refused.{Numbered, numbered, first-zero, first-front}
@@ -87,6 +87,6 @@ pub call-outcome : (bank map r : List ℕ) (end : ℕ) (part : List ℕ) → fir
     → outcome end (partOf r part) r (carried bank map) ≡ replayCall bank map r end part
 unfolding outcome replayCall call
 call-outcome bank map r end part z =
-    let passed = lent-passed bank map (recordTests end r ++ (shortPart part r ∷ [])) z .1 in
+    let passed = lent-passed bank map (ownTests end r part) z .1 in
     let own : first (recordTests end r) ≡ 0 = first-front (recordTests end r) (shortPart part r ∷ []) (tests-numbered end r) passed in
     ap (λ n. settle n (countOf r bank ∷ []) (left (partOf r part) r (carried bank map)) (bank ∷ map ∷ [])) (own ∙ sym z)

@@ -168,8 +168,12 @@ replayText file input = texts (lines (inFile file) (recordsIn input) fresh)
 abbrev pub shortPart : List ℕ → List ℕ → Test
 shortPart part r = 11 if (not (asksKey r) && ltb (length part) (sizeIn r))
 
+-- the record's own tests, and the part's last
+abbrev pub ownTests : ℕ → List ℕ → List ℕ → List Test
+ownTests end r part = recordTests end r ++ (shortPart part r ∷ [])
+
 abbrev pub replayTests : List ℕ → List ℕ → List ℕ → ℕ → List ℕ → List Test
-replayTests bank map r end part = lentTests bank map (recordTests end r ++ (shortPart part r ∷ []))
+replayTests bank map r end part = lentTests bank map (ownTests end r part)
 
 unfoldable pub replayCall : List ℕ → List ℕ → List ℕ → ℕ → List ℕ → Outcome
 replayCall bank map r end part =
@@ -213,6 +217,7 @@ ready p (r ∷ l) = cond (atHand p r) (suc (ready p l)) 0
 abbrev pub replayRoom : ℕ
 replayRoom = 22
 
+-- 6: the text's buffer does not hold the longest line of every record
 abbrev pub shortText : List ℕ → List ℕ → Test
 shortText input out = 6 if ltb (length out) (replayRoom * recordCount input)
 

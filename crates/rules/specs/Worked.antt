@@ -185,7 +185,7 @@ table =
     ∷ (replayText companion (0 ∷ []) gives 56 ∷ 32 ∷ 48 ∷ 10 ∷ [])
     -- P5's block and P6's, of sources that end before, at and after each one's last byte
     ∷ (map p5MadeUp (0 ∷ 1 ∷ 8 ∷ 15 ∷ 16 ∷ 17 ∷ []) gives 16 ∷ 15 ∷ 8 ∷ 1 ∷ 0 ∷ 0 ∷ [])
-    ∷ (map p6MadeUp (0 ∷ 3 ∷ 7 ∷ 8 ∷ []) gives 8 ∷ 5 ∷ 1 ∷ 0 ∷ [])
+    ∷ (map p6MadeUp (0 ∷ 3 ∷ 7 ∷ 8 ∷ 9 ∷ []) gives 8 ∷ 5 ∷ 1 ∷ 0 ∷ 0 ∷ [])
     -- P8's pair, each byte of it stored four times, by the hardware's load and as a row of entries
     ∷ (map (p8MadeUp 2) (0 ∷ 1 ∷ 2 ∷ []) gives 8 ∷ 4 ∷ 0 ∷ [])
     ∷ (map (p8MadeUp 0) (0 ∷ 1 ∷ 2 ∷ []) gives 8 ∷ 4 ∷ 0 ∷ [])

@@ -37,7 +37,7 @@ module _ {src : List ℕ} {bank map : List ℕ} where
       → CarriedOut src (concat (tab (n + 1) f)) bank map bank″ map″
   one-more f n p q = rw concat-more (after p q)
 
-  pub still-lent : {l : List Store} {bank′ map′ : List ℕ} → Lent bank map → CarriedOut src l bank map bank′ map′ → Lent bank′ map′
+  still-lent : {l : List Store} {bank′ map′ : List ℕ} → Lent bank map → CarriedOut src l bank map bank′ map′ → Lent bank′ map′
   still-lent {l} w p =
       record {
         whole-bank = rw (p .bank-is, length-stored) (w .whole-bank);

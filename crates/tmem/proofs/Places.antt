@@ -1,7 +1,7 @@
 -- The stores of a word, a place at a time, and their number.
 use mathlib.Core.Path.{_≡_, refl, ap, sym, _∙_}
 use mathlib.Core.Bool.{Bool, true, false, cond}
-use mathlib.Core.List.{List, [], _∷_, _++_}
+use mathlib.Core.List.{List, [], _∷_}
 use Prim.Native.Nat.{ℕ, _+_, _-_, _*_, _%_, _≤_}
 use native.Mathlib.Nat.{add-zero}
 use native.Mathlib.Omega.{arith}
@@ -11,48 +11,42 @@ use lib.ListN.{length, getD}
 use Rattle.rules.specs.Base.{tab, tabFrom, concat}
 use Rattle.rules.specs.Load.{Store, store, LoadTile, halfword, base, firstSpot, oddSpot, list4, splits, upper}
 use Rattle.rules.specs.Load.{splitStores, wholeStores, wordStores}
-use Rattle.rules.proofs.Loads.{splitBy}
-use Rattle.tmem.specs.Part.{Spots, halfStores, splitStep, CarriedOut}
+use Rattle.rules.proofs.Loads.{splitBy, either-shape}
+use Rattle.tmem.specs.Part.{Spots, halfStores, splitStep, splitFour, CarriedOut}
 use Rattle.tmem.proofs.Carry.{exchanged}
 use Rattle.tmem.proofs.Indices.{start-below}
 
--- the four stores at the place of turn j of a word that goes to both halves
-abbrev pub splitTurn : ℕ → List ℕ → ℕ → (ℕ → ℕ) → ℕ → List Store
-splitTurn step l start from j =
-    store (getD l (start + j) 0) (from (4 * j))
-    ∷ store (getD l (start + j) 0 + 2048) (from (4 * j + 3 - step))
-    ∷ store (getD l (start + j) 0 + 1) (from (4 * j + step))
-    ∷ store (getD l (start + j) 0 + 1 + 2048) (from (4 * j + 3))
+-- the four stores of a word's own bytes at the place of turn j, where the word goes to both halves
+abbrev pub splitTurn : ℕ → List ℕ → ℕ → ℕ → List Store
+splitTurn step l start j =
+    store (getD l (start + j) 0) (4 * j)
+    ∷ store (getD l (start + j) 0 + 2048) (4 * j + 3 - step)
+    ∷ store (getD l (start + j) 0 + 1) (4 * j + step)
+    ∷ store (getD l (start + j) 0 + 1 + 2048) (4 * j + 3)
     ∷ []
 
 -- made a halfword at a time they come to the same, as the halves are far apart
-pub split-turn : {src bank map bank′ map′ : List ℕ} (a step : ℕ) (l : List ℕ) (start : ℕ) (from : ℕ → ℕ) (j : ℕ)
+pub split-turn : {src bank map bank′ map′ : List ℕ} (a step : ℕ) (l : List ℕ) (start j : ℕ)
     → a ≡ getD l (start + j) 0
     → a % 2 ≡ 0
-    → CarriedOut src
-    (halfStores a (from (4 * j)) (from (4 * j + step)) ++ halfStores (a + 2048) (from (4 * j + 3 - step)) (from (4 * j + 3)))
-    bank map bank′ map′
-    → CarriedOut src (splitTurn step l start from j) bank map bank′ map′
-split-turn a step l start from j e h p =
+    → CarriedOut src (splitFour step a (4 * j)) bank map bank′ map′
+    → CarriedOut src (splitTurn step l start j) bank map bank′ map′
+split-turn a step l start j e h p =
     let up : a + 1 + 2048 ≡ a + 2048 + 1 = omega arith in
     rw (← e, up) (exchanged _ _ _ _ (omega arith) p)
 
 -- they are the rule's, where of each four bytes the low half takes the first and the one a step on
-pub split-is : (t : LoadTile) (l : List ℕ) (start : ℕ) (from : ℕ → ℕ)
-    → concat (tab 2 (splitTurn (splitStep t) l start from)) ≡ splitStores t l start from
+pub split-is : (t : LoadTile) (l : List ℕ) (start : ℕ) → concat (tab 2 (splitTurn (splitStep t) l start)) ≡ splitStores t l start (λ k. k)
 unfolding splitStores concat tab tabFrom
-split-is t l start from = go (eqb (t .fmt) 1)
+split-is t l start = go (eqb (t .fmt) 1)
   where
-    go : (yuv : Bool) → concat (tab 2 (splitTurn (cond yuv 2 1) l start from)) ≡ splitBy yuv l start from
+    go : (yuv : Bool) → concat (tab 2 (splitTurn (cond yuv 2 1) l start)) ≡ splitBy yuv l start (λ k. k)
     go true = rw (add-zero (getD l (start + 0) 0), add-zero (getD l (start + 1) 0))
     go false = rw (add-zero (getD l (start + 0) 0), add-zero (getD l (start + 1) 0))
 
 -- the two stores at place k of a word that goes to one half
-abbrev pub wholeTurn : List ℕ → ℕ → ℕ → (ℕ → ℕ) → ℕ → List Store
-wholeTurn l high o from k =
-    store (getD l k 0 + high) (from (2 * bitXor k o))
-    ∷ store (getD l k 0 + high + 1) (from (2 * bitXor k o + 1))
-    ∷ []
+abbrev pub wholeTurn : List ℕ → ℕ → ℕ → ℕ → List Store
+wholeTurn l high o k = halfStores (getD l k 0 + high) (2 * bitXor k o) (2 * bitXor k o + 1)
 
 -- the row's word may be wrapped at the bank's end: the bits that are left are those of 512 words
 pub first-wraps : (b h : ℕ) → firstSpot (b % 512) h ≡ firstSpot b h
@@ -94,19 +88,5 @@ module _ {t : LoadTile} {s row h f o : ℕ} (w : Found t s row h f o) where
 
 -- a word is eight stores
 pub word-length : (t : LoadTile) (s row : ℕ) (from : ℕ → ℕ) → length (wordStores t s row from) ≡ 8
-unfolding wordStores splitStores wholeStores concat tab tabFrom
-word-length t s row from = go (splits t)
-  where
-    h : ℕ
-    h = halfword t s
-
-    f : ℕ
-    f = firstSpot (base t row) h
-
-    o : ℕ
-    o = oddSpot row
-
-    go : (b : Bool)
-        → length (cond b (splitStores t (list4 f o) (bitXor (bitAnd h 2) o) from) (wholeStores (list4 f o) (upper f) o from)) ≡ 8
-    go true = refl
-    go false = refl
+unfolding splitStores wholeStores concat tab tabFrom
+word-length t s row from = either-shape t s row from (λ l. length l ≡ 8) (λ l start. refl) (λ l high. refl)

@@ -50,7 +50,7 @@ pub(crate) fn image_tile(tile: LoadTile, image_siz: u32) -> LoadTile
     tile
 }
 
-// By how many bits a column's number is shifted to its halfword's.
+// By how many bits a column's number is shifted to its halfword's: the same for all words of a run, so that it is worked out once.
 fn column_shift(tile: LoadTile) -> u32
     ensures { λ r. ⌜ r ≡ columnShift (loadOf tile) ⌝ }
 {

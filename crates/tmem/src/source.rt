@@ -90,7 +90,8 @@ fn pair_word(src: &[u8], at: usize) -> SourceWord
     }
 }
 
-// The word at `at`; where one pair fills all lanes, its bytes are that pair's. Its bytes are tested together, not one by one.
+// The word at `at`; where one pair fills all lanes, its bytes are that pair's. One test says whether all of them stand inside the
+// source; only those of a word that is cut are tested one by one.
 pub(crate) fn source_word(src: &[u8], at: usize, replicate: bool) -> SourceWord
     requires { ⌜ at < 2 ^ 32 ⌝ }
     ensures { λ r. ⌜ Taken (now (src .entry)) (placeOf at replicate) r ⌝ }

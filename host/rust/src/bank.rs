@@ -22,7 +22,7 @@ pub struct Bank {
 pub struct Loaded {
     /// How often it stored a byte.
     pub count: u32,
-    /// How many of the stored bytes no source had: zeros in place of bytes at or past the source's end. At 0 every stored byte
+    /// How many of the stored bytes the source did not have: zeros in place of bytes at or past its end. At 0 every stored byte
     /// came from the source; above 0 the load asks for more than the source has, as where a capture cut it short. A byte that is
     /// stored several times over, as a palette's are, counts each time. Never above `count`.
     pub made_up: u32,

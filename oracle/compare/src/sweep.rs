@@ -1,4 +1,5 @@
-//! Cases by structure: every pair, mode and lane with the limits of the sizes, the limits of every load, and sources of every length.
+//! Cases by structure: every pair, mode and lane with the limits of the sizes, the limits of every load, small loads from sources of every
+//! length.
 //! Runs of records: the limits of every number, several faults at a time, and sources at the companion's end.
 use crate::capture::place::*;
 use crate::capture::{By, Companion, Record, Run, BLOCK, KEY, RECORD_BYTES, TILE, TLUT};

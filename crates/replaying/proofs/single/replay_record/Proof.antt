@@ -4,11 +4,10 @@ use native.Mathlib.Omega.{arith}
 use lib.ListN.{length-take}
 use lib.Seq.{length-take-le}
 use Rattle.rules.specs.Refusal.{first}
-use Rattle.rules.specs.Replay.{replayTests, replayCall, carried, outcome}
+use Rattle.rules.specs.Replay.{replayTests, replayCall, carried, outcome, ownTests}
 use Rattle.rules.proofs.Refused.{refused-is}
 use Rattle.rules.proofs.ReplayTests.{call-outcome}
 use Rattle.rules.proofs.LentTests.{lent-passed}
-use Rattle.replaying.proofs.ByTests.{ownTests}
 use Rattle.replaying.proofs.Held.{named-part}
 use borrow.Author.Needs.{needs}
 use Rattle.replaying.proofs.single.replay_record.Statement.{statement}

@@ -1,9 +1,9 @@
 -- `replaying::single::replay_refusal` answers the first test that fails. Assumes nothing.
 use mathlib.Core.Path.{_≡_, sym, _∙_}
 use Rattle.rules.specs.Refusal.{first}
-use Rattle.rules.specs.Replay.{replayTests}
+use Rattle.rules.specs.Replay.{ownTests, replayTests}
 use Rattle.rules.proofs.LentTests.{short-bank, short-map, both-lent}
-use Rattle.replaying.proofs.ByTests.{ownTests, by-record, by-part, by-nothing}
+use Rattle.replaying.proofs.ByTests.{by-record, by-part, by-nothing}
 use borrow.Author.Needs.{needs}
 use Rattle.replaying.proofs.single.replay_refusal.Statement.{statement}
 use Rattle.replaying.proofs.single.replay_refusal.Tie as tie

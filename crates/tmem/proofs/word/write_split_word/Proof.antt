@@ -12,7 +12,7 @@ use Rattle.tmem.proofs.word.write_split_word.Tie as tie
 
 abbrev Inv-loop : tie.InvT-loop
 Inv-loop bank₀ written₀ word tile first odd start i₀ bank written i =
-    Turn 2 (splitTurn (splitStep (loadOf tile)) (list4 (first .0) odd) start (λ k. k)) (bytesIn word) bank₀ written₀ i bank written
+    Turn 2 (splitTurn (splitStep (loadOf tile)) (list4 (first .0) odd) start) (bytesIn word) bank₀ written₀ i bank written
 
 abbrev μ-loop : tie.MeasureT-loop
 μ-loop bank₀ written₀ word tile first odd start i₀ bank written i = 2 - i
@@ -57,7 +57,7 @@ loop-again c =
     let l = d .before .before .before in
     let a = l .before .before .before .args in
     next (l .loop .inv) (d .before .before .loop-test .taken)
-    (split-turn (d .lower-byte .result .0) (splitStep (loadOf (a .tile))) (list4 (a .first .0) (a .odd)) (a .start) (λ k. k) (l .loop .i)
+    (split-turn (d .lower-byte .result .0) (splitStep (loadOf (a .tile))) (list4 (a .first .0) (a .odd)) (a .start) (l .loop .i)
     (found d) (omega (arith, d .lower-byte .ensures)) (t .write-split-place .ensures))
 
 same-length : tie.Need-same-length Inv-loop μ-loop
@@ -69,7 +69,7 @@ same-length-2 c = omega arith
 returns : tie.Need-returns Inv-loop μ-loop
 returns c =
     let a = c .before .before .before .before .args in
-    let is = split-is (loadOf (a .tile)) (list4 (a .first .0) (a .odd)) (a .start) (λ k. k) in
+    let is = split-is (loadOf (a .tile)) (list4 (a .first .0) (a .odd)) (a .start) in
     rw (← is) (finish (c .before .loop .inv) (omega arith))
 
 pub write-split-word-spec : {M : Type 1} → statement M

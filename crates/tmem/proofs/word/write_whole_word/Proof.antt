@@ -10,7 +10,7 @@ use Rattle.tmem.proofs.word.write_whole_word.Tie as tie
 
 abbrev Inv-loop : tie.InvT-loop
 Inv-loop bank₀ written₀ word first odd k₀ bank written k =
-    Turn 4 (wholeTurn (list4 (first .0) odd) (upper (first .0)) odd (λ k. k)) (bytesIn word) bank₀ written₀ k bank written
+    Turn 4 (wholeTurn (list4 (first .0) odd) (upper (first .0)) odd) (bytesIn word) bank₀ written₀ k bank written
 
 abbrev μ-loop : tie.MeasureT-loop
 μ-loop bank₀ written₀ word first odd k₀ bank written k = 4 - k
