@@ -2,7 +2,8 @@
  *
  * The texture memory is a bank of 4,096 bytes. The library loads it (block, tile, palette), makes pictures of it, says
  * which of its bytes a tile can reach, and cuts a key for a picture: the bank with the bytes that making the picture
- * reads kept, and all others zero. It also replays a capture, which is a file of records of such loads and keys.
+ * reads kept, and all others zero. It writes a picture as a file for other programs, and reads such files. It also replays a
+ * capture, which is a file of records of such loads and keys.
  *
  * Rules that hold for every call:
  *
@@ -10,7 +11,8 @@
  *   no state of its own, so calls on different buffers may run at the same time.
  * - Buffers of one call must not overlap. A buffer of length 0 may have a null pointer.
  * - Every number is taken. One that is out of range, or a buffer of a wrong length, is refused with a number (TK_REFUSED_..
- *   below). Each call tests only what it has a use for, in this order: 1, 8, 10, 2, 3, 4, 11, 5, 6, 7, 9.
+ *   below). Each call tests only what it has a use for, in this order: 1, 8, 10, 2, 3, 4, 11, 5, 12, 6, 7, 9. Reading a file,
+ *   tk_read_pam, has an order of its own: 13, 14, 2, 15, 6.
  * - A refused call changes no buffer, and its other answers are 0.
  * - Success is the refusal 0, TK_DONE.
  *
@@ -37,30 +39,38 @@ extern "C" {
 #define TK_PALETTE_BASE 2048   /* where the palette begins in a bank */
 #define TK_LOOKUP_TEXELS 16384 /* the texels of a lookup */
 #define TK_SOURCE_MOST 65536   /* a load's source has at most this many bytes */
-#define TK_SIDE_MOST 1024      /* width and height are at most this */
+#define TK_SIDE_MOST 1024      /* width and height, of a tile or a picture, are at most this */
 #define TK_TEXEL_READS_MOST 4  /* a texel reads at most this many bytes of the bank */
 #define TK_RECORD_BYTES 48     /* a record of a capture */
+
+/* The header that tk_write_pam writes has at most this many bytes: 63, and the digits of width and height, at most ten each. */
+#define TK_PAM_HEADER_MOST (63 + 2 * 10)
 
 /* ---- Refusals ------------------------------------------------------------------------------------------------------- */
 
 enum {
     TK_DONE = 0,                 /* not refused */
     TK_REFUSED_LENGTH = 1,       /* a bank or key is not 4,096 bytes, a written or reach map not 512, a lane map not 32 */
-    TK_REFUSED_TILE = 2,         /* a field of the tile is out of range */
+    TK_REFUSED_TILE = 2,         /* a field of the tile is out of range, or a side of a picture is above TK_SIDE_MOST */
     TK_REFUSED_MODE_OR_LANE = 3, /* mode or lane is above 3 */
     TK_REFUSED_LOAD = 4,         /* a number of the load, or the length of its source, is out of range */
     TK_REFUSED_PAIR = 5,         /* the mode does not accept this pair of format and size */
-    TK_REFUSED_PICTURE = 6,      /* the picture's buffer is shorter than 4 bytes a texel */
+    TK_REFUSED_PICTURE = 6,      /* the picture's buffer is shorter than 4 bytes a texel, or the file's than the file */
     TK_REFUSED_TRAIL = 7,        /* the trail's buffer is shorter than 2 bytes a read */
     TK_REFUSED_TORN = 8,         /* a capture's record has fewer than 48 bytes, or a program's input ends inside a record */
     TK_REFUSED_UNKNOWN = 9,      /* the texel step does not know the pair */
     TK_REFUSED_KIND = 10,        /* the kind of a capture's record is above 3 */
-    TK_REFUSED_BEYOND = 11       /* the source of a capture's record goes beyond the companion file */
+    TK_REFUSED_BEYOND = 11,      /* the source of a capture's record goes beyond the companion file */
+    TK_REFUSED_ZERO_SIDE = 12,   /* a picture to be written has a zero side */
+    TK_REFUSED_HEADER = 13,      /* a file's header breaks the PAM description, a zero side included */
+    TK_REFUSED_TUPLES = 14,      /* a file's depth, maximum or tuple type is another, or it has no tuple type */
+    TK_REFUSED_TEXELS = 15       /* a file has fewer texel bytes than its header calls for */
 };
 
 /* ---- Answers -------------------------------------------------------------------------------------------------------- */
 
-/* count: a picture's reads, or a key's kept bytes; of a replayed record its load's stores, or its key's kept bytes */
+/* count: a picture's reads, a key's kept bytes, or a file's bytes; of a replayed record its load's stores, or its key's kept
+ * bytes */
 typedef struct tk_answer {
     uint32_t refusal;
     uint32_t count;
@@ -85,6 +95,13 @@ typedef struct tk_sampling_answer {
     uint32_t height;
 } tk_sampling_answer;
 
+/* width, height: the texels of a picture that was read */
+typedef struct tk_size_answer {
+    uint32_t refusal;
+    uint32_t width;
+    uint32_t height;
+} tk_size_answer;
+
 /* yes: 1 or 0 */
 typedef struct tk_yes_answer {
     uint32_t refusal;
@@ -105,11 +122,11 @@ typedef struct tk_tile {
     uint32_t maskt;     /* 0..15: down */
     uint32_t line;      /* 0..511: words of eight bytes from one row to the next */
     uint32_t tmem_addr; /* 0..511: the word of eight bytes at which the tile begins */
-    uint32_t width;     /* 0..1,024: texels */
-    uint32_t height;    /* 0..1,024: texels */
+    uint32_t width;     /* 0..TK_SIDE_MOST: texels */
+    uint32_t height;    /* 0..TK_SIDE_MOST: texels */
 } tk_tile;
 
-/* The twelve numbers of a tile and its mode, as every call below takes them. */
+/* The twelve numbers of a tile and its mode, as most calls below take them. */
 #define TK_TILE_PARAMETERS                                                                                   \
     uint32_t fmt, uint32_t siz, uint32_t palette, uint32_t mode, uint32_t cms, uint32_t cmt, uint32_t masks, \
         uint32_t maskt, uint32_t line, uint32_t tmem_addr, uint32_t width, uint32_t height
@@ -179,6 +196,52 @@ tk_answer tk_sampling_lookup(const uint8_t *bank, size_t bank_length, TK_TILE_PA
 
 tk_answer tk_sampling_lookup_observed(const uint8_t *bank, size_t bank_length, TK_TILE_PARAMETERS, uint32_t lane,
                                       uint8_t *picture, size_t picture_length, uint8_t *trail, size_t trail_length);
+
+/* ---- Pictures as files ---------------------------------------------------------------------------------------------- */
+
+/* PAM is the picture format of the Netpbm programs, which turn it into PNG and many others, and back: a header of lines of
+ * text, and then the texels as plain bytes, row by row from the top. These two calls write and read those of its files that
+ * hold what a picture holds here: red, green, blue and alpha, a byte each. */
+
+/* Writes a picture as a file: this header, each of its lines with a newline (the byte 10) at its end,
+ *
+ *     P7
+ *     WIDTH 320
+ *     HEIGHT 240
+ *     DEPTH 4
+ *     MAXVAL 255
+ *     TUPLTYPE RGB_ALPHA
+ *     ENDHDR
+ *
+ * with one blank (32) between two words, and the picture's own width and height in decimal digits without leading zeros; then
+ * the first 4 width height bytes of `picture`, as they are.
+ *
+ * That is 63 bytes, the digits of width and height, and 4 bytes a texel. A file buffer of TK_PAM_HEADER_MOST + 4 width height
+ * bytes is always long enough. Further bytes of it keep what they hold, and further bytes of `picture` are not read.
+ * Refuses 2 (a side above TK_SIDE_MOST), 12 (a side of 0, which PAM does not have), 6 (picture, file). Answers the count of
+ * the file's bytes. */
+tk_answer tk_write_pam(uint32_t width, uint32_t height, const uint8_t *picture, size_t picture_length, uint8_t *file,
+                       size_t file_length);
+
+/* Reads such a file of any program's, so the header may differ from the one above. What is asked of it:
+ *
+ * - It begins with the bytes "P7" and a newline. Lines follow, of which each ends with a newline, and with nothing else.
+ * - A line whose first byte is '#' is a comment. It may hold any bytes, and be of any length.
+ * - Any other line is a keyword, and then a value. White space stands between them, and may stand before and behind: any of
+ *   the bytes 32 (blank), 9 (tab), 11, 12, 13 (carriage return). A line of white space alone says nothing.
+ * - The keywords are WIDTH, HEIGHT, DEPTH, MAXVAL, TUPLTYPE and ENDHDR, in capitals. ENDHDR ends the header, and its value, if
+ *   any, is ignored. The others may come in any order.
+ * - WIDTH, HEIGHT, DEPTH and MAXVAL come once each. Their value is decimal digits and nothing else: any number of them,
+ *   leading zeros too. It is not 0, and for MAXVAL at most 65,535.
+ * - TUPLTYPE may come any number of times, and always has a value. The tuple type is its values, with a blank between each two.
+ *
+ * Refuses 13 where anything of that is not so; 14 unless DEPTH is 4, MAXVAL 255 and the tuple type RGB_ALPHA; 2 where width or
+ * height is above TK_SIDE_MOST; 15 where fewer than 4 width height bytes come after the header; 6 where `picture` has fewer.
+ *
+ * Those bytes are the texels. They go to the front of `picture` as they are; the rest of it keeps its bytes. What comes after
+ * them in the file is not read. A picture buffer as long as the file is always long enough, so the size need not be known
+ * beforehand. Answers width and height. */
+tk_size_answer tk_read_pam(const uint8_t *file, size_t file_length, uint8_t *picture, size_t picture_length);
 
 /* ---- Reach, loads in reach, lane check ------------------------------------------------------------------------------ */
 
@@ -279,6 +342,12 @@ static inline tk_answer tk_sampling_lookup_observed_of(const uint8_t *bank, cons
                                                        size_t trail_length) {
     return tk_sampling_lookup_observed(bank, TK_BANK_BYTES, TK_TILE_ARGUMENTS(tile), lane, picture, picture_length, trail,
                                        trail_length);
+}
+
+/* Of the tile, width and height: those of its plain picture. */
+static inline tk_answer tk_write_pam_of(const tk_tile *tile, const uint8_t *picture, size_t picture_length, uint8_t *file,
+                                        size_t file_length) {
+    return tk_write_pam(tile->width, tile->height, picture, picture_length, file, file_length);
 }
 
 static inline uint32_t tk_reach_of(const tk_tile *tile, uint8_t *map) {

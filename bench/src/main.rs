@@ -1,4 +1,5 @@
-//! The original Rust and the archive side by side, in one process and on the same inputs, as Markdown tables.
+//! The original Rust and the archive side by side, in one process and on the same inputs, as Markdown tables. Where the original has
+//! no such call, plain Rust stands for it.
 //!
 //!     bench ROUNDS
 mod timing;
@@ -8,7 +9,7 @@ use original::TileDescriptor;
 use std::hint::black_box;
 use std::process::ExitCode;
 use timing::{race, Pair};
-use tulonkasa::{slices, Tile, LOOKUP_TEXELS};
+use tulonkasa::{slices, Tile, LOOKUP_TEXELS, SIDE_MOST};
 
 /// The goals for the ratios of archive to original.
 const GOAL: f64 = 0.5;
@@ -42,6 +43,7 @@ fn main() -> ExitCode {
     bench.lookups();
     bench.loads();
     bench.others();
+    bench.files();
     bench.conclude();
     ExitCode::SUCCESS
 }
@@ -316,6 +318,52 @@ impl Bench {
             },
         );
         self.row(format!("key, {name}"), pair);
+    }
+
+    /// The original has no files. The second writer and reader stand for it, and a copy of the texels alone.
+    fn files(&self) {
+        println!("\nPAM files, nanoseconds a file, beside the plain Rust of `oracle/pam` and a copy of the texels alone. No goal.\n");
+        println!("| call | texels | Rust | archive | ratio | copy | archive | ratio |");
+        println!("|---|---|---|---|---|---|---|---|");
+        for side in [64, SIDE_MOST] {
+            self.write_row(side);
+        }
+        for side in [64, SIDE_MOST] {
+            self.read_row(side);
+        }
+    }
+
+    fn write_row(&self, side: u32) {
+        let texels = bytes(pam::texel_bytes(side, side));
+        let empty = vec![0; pam::spelling(side, side).len() + texels.len()];
+        let [mut plain, mut proved, mut copied] = [empty.clone(), empty.clone(), empty];
+        self.file_row(
+            "write",
+            side,
+            || used(pam::write(side, side, black_box(&texels), black_box(&mut plain)).expect("in range")),
+            || used(slices::write_pam(side, side, black_box(&texels), black_box(&mut proved)).expect("in range")),
+            || black_box(&mut copied)[..texels.len()].copy_from_slice(black_box(&texels)),
+        );
+    }
+
+    fn read_row(&self, side: u32) {
+        let texels = bytes(pam::texel_bytes(side, side));
+        let file = [pam::spelling(side, side).as_bytes(), &texels].concat();
+        let empty = vec![0; texels.len()];
+        let [mut plain, mut proved, mut copied] = [empty.clone(), empty.clone(), empty];
+        self.file_row(
+            "read",
+            side,
+            || used(pam::read(black_box(&file), black_box(&mut plain)).expect("good")),
+            || used(slices::read_pam(black_box(&file), black_box(&mut proved)).expect("good")),
+            || black_box(&mut copied).copy_from_slice(black_box(&texels)),
+        );
+    }
+
+    fn file_row(&self, name: &str, side: u32, plain: impl FnMut(), mut proved: impl FnMut(), copy: impl FnMut()) {
+        let beside_plain = cells(race(self.rounds, plain, &mut proved));
+        let beside_copy = cells(race(self.rounds, copy, &mut proved));
+        println!("| {name} | {side} by {side} | {beside_plain} | {beside_copy} |");
     }
 
     fn conclude(&self) {

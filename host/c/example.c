@@ -1,8 +1,9 @@
-/* An example: load a block, make a picture of it and the picture's key, and print the bytes that the key keeps. Then replay a
- * capture of the same load and key. */
+/* An example: load a block, make a picture of it, write the picture as a file and read it back, cut the picture's key, and print
+ * the bytes that the key keeps. Then replay a capture of the same load and key. */
 
 #include <inttypes.h>
 #include <stdio.h>
+#include <string.h>
 
 #include "tulonkasa.h"
 
@@ -14,6 +15,7 @@ static int refused(const char *what, uint32_t refusal) {
 
 int main(void) {
     static uint8_t bank[TK_BANK_BYTES], written[TK_MAP_BYTES], key[TK_BANK_BYTES], picture[4 * 4 * 2];
+    static uint8_t file[TK_PAM_HEADER_MOST + sizeof picture], again[sizeof file];
 
     /* Two rows of four texels of 16 bits: red, green, magenta and white, then the same backwards. */
     static const uint8_t source[] = {0xf8, 0x01, 0x07, 0xc1, 0xf8, 0x3f, 0xff, 0xff,
@@ -43,6 +45,15 @@ int main(void) {
         }
         printf("\n");
     }
+
+    /* A PAM file in memory: fwrite would put its first saved.count bytes on a disk. A reader need not know the size. */
+    tk_answer saved = tk_write_pam_of(&tile, picture, sizeof picture, file, sizeof file);
+    if (refused("writing", saved.refusal)) return 1;
+    printf("file: %" PRIu32 " bytes\n", saved.count);
+    tk_size_answer read = tk_read_pam(file, saved.count, again, sizeof again);
+    if (refused("reading", read.refusal)) return 1;
+    int same = memcmp(again, picture, sizeof picture) == 0;
+    printf("read back: %" PRIu32 " by %" PRIu32 ", %s texels\n", read.width, read.height, same ? "the same" : "other");
 
     tk_answer cut = tk_key_of(bank, &tile, 0, key);
     if (refused("key", cut.refusal)) return 1;

@@ -8,7 +8,7 @@
 
 static uint8_t bank[TK_BANK_BYTES], written[TK_MAP_BYTES], map[TK_MAP_BYTES], lanes[TK_LANE_MAP_BYTES], key[TK_BANK_BYTES];
 static uint8_t picture[4 * TK_LOOKUP_TEXELS], trail[2 * TK_TEXEL_READS_MOST * TK_LOOKUP_TEXELS];
-static uint8_t source[64], part[TK_SOURCE_MOST + 1];
+static uint8_t source[64], part[TK_SOURCE_MOST + 1], file[TK_PAM_HEADER_MOST + 4 * TK_SIDE_MOST];
 static int wrong;
 
 static void check(int holds, const char *what, int line) {
@@ -36,7 +36,7 @@ static tk_tile with(tk_tile tile, size_t place, uint32_t number) {
 /* Each of the twelve arrives whole and in its place: its limit is taken, and one past it refused, by 3 for the mode (the
  * fourth), else by 2. A number of 2^32 - 1 is refused as well, so all 32 bits arrive. */
 static void check_the_twelve(void) {
-    static const uint32_t most[12] = {7, 3, 15, 3, 3, 3, 15, 15, 511, 511, 1024, 1024};
+    static const uint32_t most[12] = {7, 3, 15, 3, 3, 3, 15, 15, 511, 511, TK_SIDE_MOST, TK_SIDE_MOST};
     for (size_t i = 0; i < 12; i++) {
         tk_tile full = with(plain_tile(), i, most[i]), past = with(plain_tile(), i, most[i] + 1),
                 far = with(plain_tile(), i, UINT32_MAX);
@@ -108,8 +108,8 @@ static const struct {
     {9, 1, {ANY, ANY, ANY, 15}, 2},
     {10, 2, {511, 511, 511, 511}, 2},
     {12, 2, {511, 511, 511, 511}, 2},
-    {14, 2, {ANY, ANY, ANY, 1024}, 2},
-    {16, 2, {ANY, ANY, ANY, 1024}, 2},
+    {14, 2, {ANY, ANY, ANY, TK_SIDE_MOST}, 2},
+    {16, 2, {ANY, ANY, ANY, TK_SIDE_MOST}, 2},
     {18, 2, {3, 3, 3, ANY}, 4},
     {20, 2, {4095, ANY, ANY, ANY}, 4},
     {22, 2, {2048, 512, ANY, ANY}, 4},
@@ -190,6 +190,47 @@ static void check_lengths(void) {
     CHECK(tk_sampling_lookup_observed_of(bank, t, 4, picture, sizeof picture, trail, 32768).refusal == 3);
     CHECK(tk_sampling_lookup_observed_of(bank, t, 0, picture, sizeof picture - 1, trail, 32768).refusal == 6);
     CHECK(tk_sampling_lookup_observed_of(bank, t, 0, picture, sizeof picture, trail, 32767).refusal == 7);
+    CHECK(tk_write_pam(3, 2, picture, 23, file, 89).refusal == 6);
+    CHECK(tk_write_pam(3, 2, picture, 24, file, 88).refusal == 6);
+}
+
+/* Width and height of a picture to be written: each is taken up to its limit and refused past it, and at 0. */
+static void check_sides(void) {
+    static const uint32_t past[] = {TK_SIDE_MOST + 1, UINT32_MAX};
+    CHECK(tk_write_pam(TK_SIDE_MOST, 1, picture, sizeof picture, file, sizeof file).refusal == 0);
+    CHECK(tk_write_pam(1, TK_SIDE_MOST, picture, sizeof picture, file, sizeof file).refusal == 0);
+    for (size_t i = 0; i < 2; i++) {
+        CHECK(tk_write_pam(past[i], 1, picture, sizeof picture, file, sizeof file).refusal == 2);
+        CHECK(tk_write_pam(1, past[i], picture, sizeof picture, file, sizeof file).refusal == 2);
+    }
+    CHECK(tk_write_pam(0, 1, picture, sizeof picture, file, sizeof file).refusal == 12);
+    CHECK(tk_write_pam(1, 0, picture, sizeof picture, file, sizeof file).refusal == 12);
+}
+
+/* What writing and reading answer and leave; then buffer and file cut short, a width of 0, and another depth. */
+static void check_files(void) {
+    static const char header[] = "P7\nWIDTH 3\nHEIGHT 2\nDEPTH 4\nMAXVAL 255\nTUPLTYPE RGB_ALPHA\nENDHDR\n";
+    size_t length = sizeof header - 1 + 24;
+    for (size_t i = 0; i < 24; i++) picture[i] = (uint8_t)(200 + i);
+    memset(file, 1, sizeof file);
+    tk_tile tile = plain_tile();
+    tk_answer answer = tk_write_pam_of(&tile, picture, sizeof picture, file, sizeof file);
+    CHECK(answer.refusal == 0 && answer.count == length && memcmp(file, header, sizeof header - 1) == 0);
+    CHECK(memcmp(file + length - 24, picture, 24) == 0 && file[length] == 1);
+
+    memset(picture, 2, sizeof picture);
+    tk_size_answer size = tk_read_pam(file, length, picture, 24);
+    CHECK(size.refusal == 0 && size.width == 3 && size.height == 2 && picture[0] == 200 && picture[23] == 223);
+    CHECK(picture[24] == 2);
+    CHECK(tk_read_pam(file, length, picture, 23).refusal == 6);
+    CHECK(tk_read_pam(file, length - 1, picture, 24).refusal == 15);
+    CHECK(tk_read_pam(file, length - 25, picture, 24).refusal == 13);
+    file[9] = '0';
+    size = tk_read_pam(file, length, picture, 24);
+    CHECK(size.refusal == 13 && size.width == 0 && size.height == 0);
+    file[9] = '3';
+    file[26] = '3';
+    CHECK(tk_read_pam(file, length, picture, 24).refusal == 14);
 }
 
 /* What the pictures answer and leave on success, of a bank whose bytes are their addresses. */
@@ -309,6 +350,8 @@ static void check_null(void) {
     CHECK(tk_load_block(NULL, 0, NULL, 0, NULL, 0, 0, 0, 0, 0, 0, 0, 0).refusal == 1);
     CHECK(tk_load_tile(NULL, 0, NULL, 0, NULL, 0, 0, 0, 0, 0, 0, 0, 0, 0).refusal == 1);
     CHECK(tk_load_tlut(NULL, 0, NULL, 0, NULL, 0, 0, 0, 0, 0, 0, 0, 1, 0).refusal == 1);
+    CHECK(tk_write_pam(1, 1, NULL, 0, NULL, 0).refusal == 6);
+    CHECK(tk_read_pam(NULL, 0, NULL, 0).refusal == 13);
     CHECK(tk_reach(TK_TILE_ARGUMENTS(t), NULL, 0) == 1);
     CHECK(tk_tile_has_load(TK_TILE_ARGUMENTS(t), NULL, 0).refusal == 1);
     CHECK(tk_palette_nonreplicated(NULL, 0, NULL, 0) == 1);
@@ -323,6 +366,8 @@ int main(void) {
     check_the_twelve();
     check_loads();
     check_lengths();
+    check_sides();
+    check_files();
     check_fields();
     check_record();
     check_answers();

@@ -1,10 +1,11 @@
-/* Rough handling: every entry, called with numbers of the full range, buffers of any length and records of any bytes.
+/* Rough handling: every entry, called with numbers of the full range, buffers of any length, and records and files of any bytes.
  *
  *     rough SECONDS SEED [CALLS]      until the time is up, or for so many calls
  *
  * Each buffer lies against a page that cannot be touched, at its end or at its start, so that the archive cannot reach
  * outside it unseen. After each call its refusal and its counts are held against what documents 01 and 02 say, worked out here
- * on their own, its other answers against 0 where it refused, and every byte that must not have changed against a copy. */
+ * on their own, its other answers against 0 where it refused, and every byte that must not have changed against a copy. Of a file
+ * with changed bytes only the numbers that reading can refuse are known. */
 
 #include <stdbool.h>
 #include <stdio.h>
@@ -45,11 +46,14 @@ typedef struct buffer {
 } buffer;
 
 /* SOURCE is also the part of the companion that a replay takes. */
-enum { BANK, WRITTEN, SOURCE, PICTURE, TRAIL, MAP, LANES, KEY, RECORD, BUFFERS };
+enum { BANK, WRITTEN, SOURCE, PICTURE, TRAIL, MAP, LANES, KEY, RECORD, PAM, BUFFERS };
 
 static buffer buffers[BUFFERS];
 static const char *const buffer_names[BUFFERS] = {"bank",      "written map", "source", "picture", "trail",
-                                                  "reach map", "lane map",    "key",    "record"};
+                                                  "reach map", "lane map",    "key",    "record",  "file"};
+
+/* A header that is made here has at most this many bytes. */
+enum { HEADER_ROOM = 8192 };
 
 /* The right lengths of bank, written map, reach map, lane map, key and record; the most for the others. */
 static const size_t right_length[BUFFERS] = {TK_BANK_BYTES,
@@ -60,7 +64,8 @@ static const size_t right_length[BUFFERS] = {TK_BANK_BYTES,
                                              TK_MAP_BYTES,
                                              TK_LANE_MAP_BYTES,
                                              TK_BANK_BYTES,
-                                             TK_RECORD_BYTES};
+                                             TK_RECORD_BYTES,
+                                             HEADER_ROOM + 4 * TK_SIDE_MOST *TK_SIDE_MOST};
 
 static void make_buffer(buffer *b, size_t least) {
     size_t page = (size_t)sysconf(_SC_PAGESIZE);
@@ -101,6 +106,8 @@ enum {
     PALETTE_NONREPLICATED,
     CUT_KEY,
     REPLAY_RECORD,
+    WRITE_PAM,
+    READ_PAM,
     ENTRIES
 };
 
@@ -116,7 +123,9 @@ static const char *const entry_names[ENTRIES] = {"tk_load_block",
                                                  "tk_tile_has_load",
                                                  "tk_palette_nonreplicated",
                                                  "tk_key",
-                                                 "tk_replay_record"};
+                                                 "tk_replay_record",
+                                                 "tk_write_pam",
+                                                 "tk_read_pam"};
 
 /* What an entry takes, and so what it can refuse. */
 enum {
@@ -127,7 +136,9 @@ enum {
     TAKES_PAIR = 16,
     TAKES_PICTURE = 32,
     TAKES_TRAIL = 64,
-    TAKES_RECORD = 128
+    TAKES_RECORD = 128,
+    TAKES_SIDES = 256,
+    TAKES_HEADER = 512
 };
 
 static const struct {
@@ -149,6 +160,8 @@ static const struct {
     [PALETTE_NONREPLICATED] = {0, 1 << BANK, 1 << LANES},
     [CUT_KEY] = {TAKES_TILE | TAKES_LANE | TAKES_PAIR, 1 << BANK, 1 << KEY},
     [REPLAY_RECORD] = {TAKES_RECORD, 1 << RECORD | 1 << SOURCE, 1 << BANK | 1 << WRITTEN},
+    [WRITE_PAM] = {TAKES_SIDES, 1 << PICTURE, 1 << PAM},
+    [READ_PAM] = {TAKES_HEADER, 1 << PAM, 1 << PICTURE},
 };
 
 /* What a record asks for, by its kind. */
@@ -161,6 +174,12 @@ static struct {
     uint32_t kind, offset, length;        /* of a record */
     uint64_t end;                         /* the companion's length */
     uint8_t record[TK_RECORD_BYTES];
+    struct {
+        uint8_t bytes[HEADER_ROOM];
+        size_t length;
+        bool breaks, is_other, is_long; /* what is wrong with it: 13, 14, 2 */
+        bool is_changed;                /* what is wrong with it is not known */
+    } header;                           /* of a file to be read; its picture is the tile's width by height */
 } now;
 
 /* What was answered. Entries with fewer numbers leave the rest 0. */
@@ -178,6 +197,10 @@ static void print_call(void) {
     if (now.entry == REPLAY_RECORD) {
         fprintf(stderr, "  kind %u offset %u length %u end %llu\n", now.kind, now.offset, now.length,
                 (unsigned long long)now.end);
+    }
+    if (now.entry == READ_PAM) {
+        fprintf(stderr, "  header, %zu bytes%s:\n", now.header.length, now.header.is_changed ? ", changed" : "");
+        fwrite(now.header.bytes, 1, now.header.length, stderr);
     }
     for (int i = 0; i < BUFFERS; i++) {
         if ((entries[now.entry].read | entries[now.entry].written) >> i & 1) {
@@ -219,10 +242,12 @@ static bool load_fields_outside(void) {
     return now.tile.fmt > 7 || now.tile.siz > 3 || now.tile.line > 511 || now.tile.tmem_addr > 511;
 }
 
+static bool side_outside(void) { return now.tile.width > TK_SIDE_MOST || now.tile.height > TK_SIDE_MOST; }
+
 static bool tile_outside(void) {
     const tk_tile *t = &now.tile;
     return load_fields_outside() || t->palette > 15 || t->cms > 3 || t->cmt > 3 || t->masks > 15 || t->maskt > 15 ||
-           t->width > 1024 || t->height > 1024;
+           side_outside();
 }
 
 static bool load_outside(void) {
@@ -238,19 +263,41 @@ static bool source_beyond(void) {
     return (uint64_t)now.offset + now.length > now.end || now.length > buffers[SOURCE].length;
 }
 
+/* The header of a picture that is written. */
+static int written_header(char *text, size_t room) {
+    return snprintf(text, room, "P7\nWIDTH %u\nHEIGHT %u\nDEPTH 4\nMAXVAL 255\nTUPLTYPE RGB_ALPHA\nENDHDR\n",
+                    now.tile.width, now.tile.height);
+}
+
+static size_t file_bytes(void) { return (size_t)written_header(NULL, 0) + 4 * texels(); }
+
+/* Of reading. A header that is cut short has no end. */
+static uint32_t expected_of_header(void) {
+    size_t length = buffers[PAM].length;
+    if (now.header.breaks || length < now.header.length) return 13;
+    if (now.header.is_other) return 14;
+    if (now.header.is_long || side_outside()) return 2;
+    if (length - now.header.length < 4 * texels()) return 15;
+    return buffers[PICTURE].length < 4 * texels() ? 6 : 0;
+}
+
 static uint32_t expected_refusal(void) {
     unsigned takes = entries[now.entry].takes | entries[now.does].takes;
+    if (takes & TAKES_HEADER) return expected_of_header();
     if (wrong_length()) return 1;
     if ((takes & TAKES_RECORD) && buffers[RECORD].length < 48) return 8;
     if ((takes & TAKES_RECORD) && now.kind > 3) return 10;
     if ((takes & TAKES_LOAD_FIELDS) && load_fields_outside()) return 2;
     if ((takes & TAKES_TILE) && tile_outside()) return 2;
+    if ((takes & TAKES_SIDES) && side_outside()) return 2;
     if ((takes & TAKES_TILE) && now.tile.mode > 3) return 3;
     if ((takes & TAKES_LANE) && now.lane > 3) return 3;
     if ((takes & TAKES_LOAD) && load_outside()) return 4;
     if ((takes & TAKES_RECORD) && (takes & TAKES_LOAD) && source_beyond()) return 11;
     if ((takes & TAKES_PAIR) && reads_each() == 0) return 5;
-    if ((takes & TAKES_PICTURE) && buffers[PICTURE].length < 4 * texels()) return 6;
+    if ((takes & TAKES_SIDES) && texels() == 0) return 12;
+    if ((takes & (TAKES_PICTURE | TAKES_SIDES)) && buffers[PICTURE].length < 4 * texels()) return 6;
+    if ((takes & TAKES_SIDES) && buffers[PAM].length < file_bytes()) return 6;
     if ((takes & TAKES_TRAIL) && buffers[TRAIL].length / 2 < reads_each() * texels()) return 7;
     return 0;
 }
@@ -272,8 +319,8 @@ static void choose_tile(void) {
     static const uint32_t most[12] = {7, 3, 15, 3, 3, 3, 15, 15, 511, 511, 40, 40};
     uint32_t numbers[12];
     for (int i = 0; i < 12; i++) numbers[i] = one_in(8) ? most[i] : up_to(most[i]);
-    if (one_in(64)) numbers[10] = up_to(1024);
-    if (one_in(64)) numbers[11] = up_to(1024);
+    if (one_in(64)) numbers[10] = up_to(TK_SIDE_MOST);
+    if (one_in(64)) numbers[11] = up_to(TK_SIDE_MOST);
     memcpy(&now.tile, numbers, sizeof numbers);
 }
 
@@ -300,7 +347,8 @@ static void choose_load(void) {
 
 /* Puts one number outside its range, or anywhere. */
 static void break_one(void) {
-    static const uint32_t most[17] = {7, 3, 15, 3, 3, 3, 15, 15, 511, 511, 1024, 1024, 3, 3, 4095, 2048, 65535};
+    static const uint32_t most[17] = {7, 3, 15,   3,    3,    3, 15, 15, 511, 511, TK_SIDE_MOST, TK_SIDE_MOST,
+                                      3, 3, 4095, 2048, 65535};
     uint32_t *numbers[17] = {&now.tile.fmt,   &now.tile.siz,    &now.tile.palette, &now.tile.mode, &now.tile.cms,
                              &now.tile.cmt,   &now.tile.masks,  &now.tile.maskt,   &now.tile.line, &now.tile.tmem_addr,
                              &now.tile.width, &now.tile.height, &now.lane,         &now.image_siz, &now.numbers[0],
@@ -370,20 +418,118 @@ static void choose_record(void) {
     now.end = some_end();
 }
 
-/* Writes the record, or as much of it as is lent. */
-static void write_record(void) {
-    buffer *b = &buffers[RECORD];
-    size_t bytes = b->length < sizeof now.record ? b->length : sizeof now.record;
-    if (bytes == 0) return;
-    memcpy(b->lent, now.record, bytes);
-    memcpy(b->copy + (b->lent - b->memory), now.record, bytes);
+/* The lines of a header but the last: keyword, value, and others. A side has the tile's value, and the others are too long. */
+static const struct {
+    const char *keyword, *value, *others[3];
+} lines[] = {
+    {"WIDTH", NULL, {"4294967298", "18446744073709551618", "99999999999999999999999999999999999"}},
+    {"HEIGHT", NULL, {"4294967297", "18446744073709551617", "10000000000000000000000000000000000"}},
+    {"DEPTH", "4", {"3", "5", "18446744073709551620"}},
+    {"MAXVAL", "255", {"1", "254", "65535"}},
+    {"TUPLTYPE", "RGB_ALPHA", {"RGB", "rgb_alpha", "RGB_ALPHA RGB_ALPHA"}},
+};
+enum { LINES = sizeof lines / sizeof *lines, TYPE_LINE = LINES - 1 };
+
+static void put_byte(uint8_t byte) { now.header.bytes[now.header.length++] = byte; }
+
+static void put_text(const char *text) {
+    while (*text != 0) put_byte((uint8_t)*text++);
 }
 
-/* Lends every buffer that the entry takes. Picture and trail get what the tile needs as far as there is room, or more. */
+/* So many bytes of white space, or some more. */
+static void put_blanks(uint32_t least) {
+    static const uint8_t blanks[] = {32, 9, 11, 12, 13};
+    for (uint32_t i = least + (one_in(8) ? up_to(4) : 0); i > 0; i--) put_byte(one_in(2) ? 32 : blanks[up_to(4)]);
+}
+
+/* Now and then a line that says nothing: white space, or a comment of any bytes but a newline. */
+static void put_idle_line(void) {
+    if (!one_in(8)) return;
+    put_blanks(0);
+    if (now.header.bytes[now.header.length - 1] == '\n' && !one_in(4)) {
+        put_byte('#');
+        for (uint32_t i = up_to(one_in(8) ? 300 : 20); i > 0; i--) put_byte((uint8_t)(11 + up_to(254)));
+    }
+    put_byte('\n');
+}
+
+/* The value of a line: mostly the one that makes a good file, else another, or one that no line may have. */
+static void put_value(size_t line) {
+    static const char *const no_numbers[] = {"0", "00", "+1", "-1", "1 1", "0x1", "1,024", "1#", "\x80"};
+    bool is_number = line != TYPE_LINE, is_side = lines[line].value == NULL;
+    uint32_t side = line == 0 ? now.tile.width : now.tile.height;
+    char digits[11];
+    snprintf(digits, sizeof digits, "%u", side);
+    if (one_in(64)) {
+        now.header.breaks = true;
+        if (is_number && one_in(2)) put_text(no_numbers[up_to(8)]);
+    } else if (one_in(64)) {
+        put_text(lines[line].others[up_to(2)]);
+        *(is_side ? &now.header.is_long : &now.header.is_other) = true;
+    } else {
+        for (uint32_t i = is_number && one_in(8) ? up_to(30) : 0; i > 0; i--) put_byte('0');
+        put_text(is_side ? digits : lines[line].value);
+        if (is_side && side == 0) now.header.breaks = true;
+    }
+}
+
+static void put_line(size_t line) {
+    put_idle_line();
+    put_blanks(0);
+    put_text(lines[line].keyword);
+    put_blanks(1);
+    put_value(line);
+    put_blanks(0);
+    put_byte('\n');
+}
+
+/* Changes some bytes or all, and now and then how many there are. */
+static void change_header(void) {
+    static const uint8_t usual[] = "\n\n\n # \t\r0123456789PWEHIDTMAXVLUYRNGB_x";
+    now.header.is_changed = true;
+    if (one_in(8)) now.header.length = up_to(200);
+    bool all = one_in(8);
+    uint32_t length = (uint32_t)now.header.length;
+    for (uint32_t i = all ? length : 1 + up_to(3); i > 0; i--) {
+        size_t place = all ? i - 1 : up_to(length);
+        now.header.bytes[place] = one_in(4) ? (uint8_t)random64() : usual[up_to(sizeof usual - 2)];
+    }
+}
+
+/* A header with its lines in any order, of which one may be missing or come twice. */
+static void choose_header(void) {
+    size_t order[LINES] = {0};
+    for (size_t i = 0; i < LINES; i++) {
+        size_t place = up_to((uint32_t)i);
+        order[i] = order[place];
+        order[place] = i;
+    }
+    memset(&now.header, 0, sizeof now.header);
+    put_text("P7\n");
+    for (size_t i = 0; i < LINES; i++) {
+        uint32_t times = !one_in(64) ? 1 : one_in(2) ? 0 : 2;
+        if (times != 1) *(order[i] == TYPE_LINE ? &now.header.is_other : &now.header.breaks) = true;
+        while (times-- > 0) put_line(order[i]);
+    }
+    put_idle_line();
+    put_text(one_in(64) ? " ENDHDR of header\n" : "ENDHDR\n");
+    if (one_in(4)) change_header();
+}
+
+/* Writes the front of a buffer that is read, or as much of it as is lent. */
+static void write_front(buffer *b, const uint8_t *front, size_t length) {
+    size_t bytes = b->length < length ? b->length : length;
+    if (bytes == 0) return;
+    memcpy(b->lent, front, bytes);
+    memcpy(b->copy + (b->lent - b->memory), front, bytes);
+}
+
+/* Lends every buffer that the entry takes. Picture, trail and file get what the tile needs as far as there is room, or more. */
 static void choose_lengths(void) {
     unsigned lent = entries[now.entry].read | entries[now.entry].written;
     uint64_t count = texels() <= TK_SIDE_MOST * TK_SIDE_MOST ? texels() : 16;
     uint32_t each = now.tile.fmt < 8 && now.tile.siz < 4 ? reads_each() : 1;
+    size_t header = now.entry == READ_PAM ? now.header.length : (size_t)written_header(NULL, 0);
     for (int i = 0; i < BUFFERS; i++) {
         if (!(lent >> i & 1)) continue;
         size_t right = right_length[i];
@@ -391,6 +537,7 @@ static void choose_lengths(void) {
         if (i == SOURCE && now.entry == REPLAY_RECORD) right = (size_t)now.length + (one_in(4) ? up_to(100) : 0);
         if (i == PICTURE) right = (size_t)(4 * count + (one_in(4) ? up_to(100) : 0));
         if (i == TRAIL) right = (size_t)(2 * each * count + (one_in(4) ? up_to(100) : 0));
+        if (i == PAM) right = (size_t)(header + 4 * count + (one_in(4) ? up_to(100) : 0));
         lend(&buffers[i], some_length(i, right));
     }
 }
@@ -411,8 +558,10 @@ static void choose_call(void) {
         while (one_in(3)) break_one();
     }
     if (now.entry == REPLAY_RECORD) choose_record();
+    if (now.entry == READ_PAM) choose_header();
     choose_lengths();
-    if (now.entry == REPLAY_RECORD) write_record();
+    if (now.entry == REPLAY_RECORD) write_front(&buffers[RECORD], now.record, sizeof now.record);
+    if (now.entry == READ_PAM) write_front(&buffers[PAM], now.header.bytes, now.header.length);
 }
 
 #define LENT(i) buffers[i].lent, buffers[i].length
@@ -472,17 +621,27 @@ static void make_call(void) {
         }
         case PALETTE_NONREPLICATED: answer.refusal = tk_palette_nonreplicated(LENT(BANK), LENT(LANES)); break;
         case CUT_KEY: set_answer(tk_key(LENT(BANK), TK_TILE_ARGUMENTS(t), now.lane, LENT(KEY))); break;
-        default: set_answer(tk_replay_record(LENT(BANK), LENT(WRITTEN), LENT(RECORD), now.end, LENT(SOURCE)));
+        case REPLAY_RECORD:
+            set_answer(tk_replay_record(LENT(BANK), LENT(WRITTEN), LENT(RECORD), now.end, LENT(SOURCE)));
+            break;
+        case WRITE_PAM: set_answer(tk_write_pam(t->width, t->height, LENT(PICTURE), LENT(PAM))); break;
+        default: {
+            tk_size_answer given = tk_read_pam(LENT(PAM), LENT(PICTURE));
+            answer.refusal = given.refusal;
+            answer.numbers[0] = given.width;
+            answer.numbers[1] = given.height;
+        }
     }
 }
 
 /* ---- Checking it ---------------------------------------------------------------------------------------------------- */
 
-/* The bytes of a picture or trail that a successful call writes; none by a record that asks for a key; else all. */
+/* The bytes of a picture, trail or file that a successful call writes; none by a record that asks for a key; else all. */
 static size_t bytes_written(int i) {
     if (now.entry == REPLAY_RECORD && now.does == CUT_KEY) return 0;
     if (i == PICTURE) return (size_t)(4 * texels());
     if (i == TRAIL) return (size_t)(2 * reads_each() * texels());
+    if (i == PAM) return file_bytes();
     return buffers[i].length;
 }
 
@@ -524,14 +683,48 @@ static void check_load_counts(void) {
     if (answer.numbers[1] != (now.entry == REPLAY_RECORD ? 0 : past_end * w.times)) fail("the made-up count");
 }
 
+/* What a writing answered and left. */
+static void check_written(void) {
+    char text[TK_PAM_HEADER_MOST + 1];
+    size_t length = (size_t)written_header(text, sizeof text);
+    const uint8_t *file = buffers[PAM].lent;
+    if (answer.numbers[0] != file_bytes()) fail("the count of the file's bytes");
+    if (memcmp(file, text, length) != 0) fail("the header");
+    if (memcmp(file + length, buffers[PICTURE].lent, 4 * texels()) != 0) fail("the file's texels");
+}
+
+/* What a reading answered and left. */
+static void check_read(void) {
+    if (answer.numbers[0] != now.tile.width || answer.numbers[1] != now.tile.height) fail("the size");
+    const uint8_t *from = buffers[PAM].lent + now.header.length;
+    if (!now.header.is_changed && memcmp(buffers[PICTURE].lent, from, 4 * texels()) != 0) fail("the picture's texels");
+}
+
 static void check_counts(void) {
+    if (now.entry == WRITE_PAM) check_written();
+    if (now.entry == READ_PAM) check_read();
     if (entries[now.does].takes & TAKES_LOAD) check_load_counts();
     bool picture = entries[now.does].takes & TAKES_PICTURE;
     if (picture && answer.numbers[0] != reads_each() * texels()) fail("the count of reads");
 }
 
+/* Of reading a changed header: what was answered, if it is a refusal that reading has, or a size that the buffers have room for. */
+static uint32_t expected_of_change(void) {
+    static const uint32_t own[] = {0, 13, 14, 2, 15, 6};
+    bool known = false;
+    for (size_t i = 0; i < sizeof own / sizeof *own; i++) known = known || answer.refusal == own[i];
+    if (!known) fail("a refusal that reading does not have");
+    now.tile.width = answer.numbers[0];
+    now.tile.height = answer.numbers[1];
+    if (answer.refusal != 0) return answer.refusal;
+    if (texels() == 0 || side_outside()) fail("the size");
+    if (buffers[PICTURE].length < 4 * texels() || buffers[PAM].length < 4 * texels()) fail("a size beyond the buffers");
+    return 0;
+}
+
 static void check_call(bool whole) {
-    uint32_t refusal = expected_refusal();
+    bool changed = now.entry == READ_PAM && now.header.is_changed;
+    uint32_t refusal = changed ? expected_of_change() : expected_refusal();
     if (answer.refusal != refusal) {
         fprintf(stderr, "rough: the table asks for %u\n", refusal);
         fail("the refusal");
@@ -545,7 +738,7 @@ static void check_call(bool whole) {
 }
 
 /* How often each number was answered, by entry. */
-enum { NUMBERS = 12 };
+enum { NUMBERS = 16 };
 static uint64_t answered[ENTRIES][NUMBERS];
 
 /* Prints that for the entries from one up to another, added up. */
@@ -585,7 +778,9 @@ int main(int argc, char **argv) {
     }
     printf("rough handling: %llu calls, seed %s, refused by number:", (unsigned long long)done, argv[2]);
     print_answered(0, ENTRIES);
-    printf("rough handling: of these %s:", entry_names[REPLAY_RECORD]);
-    print_answered(REPLAY_RECORD, ENTRIES);
+    for (int entry = REPLAY_RECORD; entry < ENTRIES; entry++) {
+        printf("rough handling: of these %s:", entry_names[entry]);
+        print_answered(entry, entry + 1);
+    }
     return 0;
 }

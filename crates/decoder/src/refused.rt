@@ -1,22 +1,15 @@
 // The refusals of a picture call, in document 01's order.
 ghost use mathlib.Core.Path.{_≡_};
-ghost use mathlib.Core.Bool.{cond};
 ghost use Rattle.rules.specs.Refusal.{first};
 ghost use Rattle.rdp.specs.View.{tileOf};
 ghost use Rattle.decoder.specs.Asked.{earlyTests, testsBy};
 use crate::format::tile_reads;
 use crate::sizes::texel_count;
 use rdp::refusal;
+use rdp::refusal::refuse;
 use rdp::tile::TileDescriptor;
 use texdec::pair::pair_refusal;
 use tmem::bank::Bank;
-
-// The refusal's number if its test fails, else what the tests after it say.
-fn refuse(number: u32, fails: bool, rest: u32) -> u32
-    ensures { λ r. ⌜ r ≡ cond fails number rest ⌝ }
-{
-    if fails { number } else { rest }
-}
 
 // The first refusal of the tests before the buffers': 1 for the bank, then those of a pair.
 fn early_refusal(bank: &[u8], tile: TileDescriptor, tlut_fmt: u32, lane: u32) -> u32

@@ -9,11 +9,13 @@ use Rattle.rules.specs.Refusal.{Outcome}
 use Rattle.rules.proofs.Refused.{determined}
 use Rattle.rdp.specs.declared.answer.Answer.{Answer}
 use Rattle.rdp.specs.declared.answer.LoadAnswer.{LoadAnswer}
+use Rattle.rdp.specs.declared.answer.SizeAnswer.{SizeAnswer}
 use Rattle.rdp.specs.declared.answer.YesAnswer.{YesAnswer}
 use Rattle.rdp.specs.declared.answer.SamplingAnswer.{SamplingAnswer}
 use Rattle.rdp.specs.declared.answer.TextAnswer.{TextAnswer}
 use Rattle.rdp.specs.declared.answer.RunAnswer.{RunAnswer}
-use Rattle.rdp.specs.View.{answered, loadAnswered, yesAnswered, samplingAnswered, textAnswered, runAnswered, refusalAnswered}
+use Rattle.rdp.specs.View.{answered, loadAnswered, sizeAnswered, yesAnswered, samplingAnswered, textAnswered, runAnswered}
+use Rattle.rdp.specs.View.{refusalAnswered}
 
 -- number k of an outcome
 number : ℕ → Outcome → ℕ
@@ -32,6 +34,13 @@ unfolding number
 load-determined o r s l m p q =
     let e : loadAnswered r l ≡ loadAnswered s m = determined p q in
     ((λ i. record { refusal = e i .refusal; count = number 0 (e i); «made_up» = number 1 (e i) }), ap (λ o. o .buffers) e)
+
+pub size-determined : (o : Outcome) (r s : SizeAnswer) (l m : List (List ℕ)) → sizeAnswered r l ≡ o → sizeAnswered s m ≡ o
+    → (r ≡ s) × (l ≡ m)
+unfolding number
+size-determined o r s l m p q =
+    let e : sizeAnswered r l ≡ sizeAnswered s m = determined p q in
+    ((λ i. record { refusal = e i .refusal; width = number 0 (e i); height = number 1 (e i) }), ap (λ o. o .buffers) e)
 
 pub yes-determined : (o : Outcome) (r s : YesAnswer) → yesAnswered r ≡ o → yesAnswered s ≡ o → r ≡ s
 unfolding number

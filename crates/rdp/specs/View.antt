@@ -6,6 +6,7 @@ use Rattle.rules.specs.Refusal.{Outcome}
 use Rattle.rdp.specs.declared.tile.TileDescriptor.{TileDescriptor}
 use Rattle.rdp.specs.declared.answer.Answer.{Answer}
 use Rattle.rdp.specs.declared.answer.LoadAnswer.{LoadAnswer}
+use Rattle.rdp.specs.declared.answer.SizeAnswer.{SizeAnswer}
 use Rattle.rdp.specs.declared.answer.YesAnswer.{YesAnswer}
 use Rattle.rdp.specs.declared.answer.SamplingAnswer.{SamplingAnswer}
 use Rattle.rdp.specs.declared.answer.TextAnswer.{TextAnswer}
@@ -34,6 +35,9 @@ answered r left = record { refusal = r .refusal; numbers = r .count ∷ []; buff
 
 abbrev pub loadAnswered : LoadAnswer → List (List ℕ) → Outcome
 loadAnswered r left = record { refusal = r .refusal; numbers = r .count ∷ r .«made_up» ∷ []; buffers = left }
+
+abbrev pub sizeAnswered : SizeAnswer → List (List ℕ) → Outcome
+sizeAnswered r left = record { refusal = r .refusal; numbers = r .width ∷ r .height ∷ []; buffers = left }
 
 abbrev pub yesAnswered : YesAnswer → Outcome
 yesAnswered r = record { refusal = r .refusal; numbers = r .yes ∷ []; buffers = [] }

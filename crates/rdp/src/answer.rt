@@ -1,6 +1,7 @@
 // What the public calls answer: a refusal, 0 for none, and the call's numbers, all 0 where it refused.
 
-// A picture's count of reads, a key's count of kept bytes, a replayed record's count of stores or of kept bytes.
+// A picture's count of reads, a key's count of kept bytes, a replayed record's count of stores or of kept bytes, a written file's
+// count of bytes.
 #[repr(C)]
 pub struct Answer {
     pub refusal: u32,
@@ -13,6 +14,14 @@ pub struct LoadAnswer {
     pub refusal: u32,
     pub count: u32,
     pub made_up: u32,
+}
+
+// The width and height of a picture that was read from a file.
+#[repr(C)]
+pub struct SizeAnswer {
+    pub refusal: u32,
+    pub width: u32,
+    pub height: u32,
 }
 
 // A yes (1) or a no (0).

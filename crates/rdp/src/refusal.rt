@@ -1,9 +1,11 @@
 // The refusals of documents 01 and 02, by their numbers. 0 is success.
+ghost use mathlib.Core.Path.{_≡_};
+ghost use mathlib.Core.Bool.{cond};
 
 // A lent bank or key is not 4,096 bytes, a written or reach map not 512, or a lane map not 32.
 pub const LENGTH: u32 = 1;
 
-// A tile field is outside its range.
+// A tile field, or a side of a picture in a file, is outside its range.
 pub const TILE: u32 = 2;
 
 // Mode or lane is above 3.
@@ -15,7 +17,7 @@ pub const LOAD: u32 = 4;
 // The pair of format and size is not accepted.
 pub const PAIR: u32 = 5;
 
-// The picture buffer is shorter than 4 bytes a texel, or a text's buffer than the longest text of its kind.
+// The picture buffer is shorter than 4 bytes a texel, a file's buffer than the file, or a text's than the longest text of its kind.
 pub const BUFFER: u32 = 6;
 
 // The trail is shorter than the count of reads.
@@ -32,3 +34,22 @@ pub const KIND: u32 = 10;
 
 // A replay's record names bytes beyond the companion file.
 pub const BEYOND: u32 = 11;
+
+// A picture that is to be written as a file has a zero side.
+pub const ZERO_SIDE: u32 = 12;
+
+// A file's header breaks the description of the format, a zero side included.
+pub const HEADER: u32 = 13;
+
+// A file has another depth, maximum or tuple type, or no tuple type.
+pub const TUPLES: u32 = 14;
+
+// A file has fewer texel bytes than its header calls for.
+pub const TEXELS: u32 = 15;
+
+// The refusal's number if its test fails, else what the tests after it say.
+pub fn refuse(number: u32, fails: bool, rest: u32) -> u32
+    ensures { λ r. ⌜ r ≡ cond fails number rest ⌝ }
+{
+    if fails { number } else { rest }
+}

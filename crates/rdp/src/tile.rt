@@ -4,11 +4,14 @@ ghost use mathlib.Core.Path.{_≡_};
 ghost use Rattle.rules.specs.Calls.{samplingTests};
 ghost use Rattle.rules.specs.Picture.{column, rowStart};
 ghost use Rattle.rules.specs.Refusal.{first};
-ghost use Rattle.rules.specs.Tile.{loadFieldsOutside, tileOutside, modeOutside, laneOutside};
+ghost use Rattle.rules.specs.Tile.{loadFieldsOutside, sidesOutside, tileOutside, modeOutside, laneOutside};
 ghost use Rattle.rdp.specs.View.{tileOf};
 use crate::refusal;
 use crate::units::LineWords;
 use crate::units::WordAddr;
+
+// The largest width and height.
+pub const SIDE_MOST: u32 = 1024;
 
 pub struct TileDescriptor {
     pub fmt: u32,
@@ -42,8 +45,8 @@ impl TileDescriptor {
             | (3 < self.cmt)
             | (15 < self.masks)
             | (15 < self.maskt)
-            | (1024 < self.width)
-            | (1024 < self.height)
+            | (SIDE_MOST < self.width)
+            | (SIDE_MOST < self.height)
     }
 
     // How far column x of a plain picture stands in its row, in bytes.
@@ -68,6 +71,13 @@ impl TileDescriptor {
         let stride = line.bytes();
         (y % 256) as usize * stride.0
     }
+}
+
+// A side of a picture is above the limit.
+pub fn sides_outside(width: u32, height: u32) -> bool
+    ensures { λ r. ⌜ r ≡ sidesOutside width height ⌝ }
+{
+    (SIDE_MOST < width) | (SIDE_MOST < height)
 }
 
 // The mode is none of 0 to 3.

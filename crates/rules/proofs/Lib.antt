@@ -21,3 +21,4 @@ pub mod ReplayTests
 pub mod Replay
 pub mod ReplayPieces
 pub mod Worked
+pub mod PamWorked

@@ -1,6 +1,6 @@
 -- The worked examples hold, every row of the table: antt computes both sides.
 use lib.Dec.{T}
-use Rattle.rules.specs.Base.{tab, tabFrom, concat, mem, any, howMany, distinct, marks, marked}
+use Rattle.rules.specs.Base.{tab, tabFrom, concat, mem, any, all, same, howMany, distinct, marks, marked}
 use Rattle.rules.specs.Reading.{trail, given, andThen, prepend, upTo}
 use Rattle.rules.specs.Texdec.{accepted, acceptedDirect, formatOf}
 use Rattle.rules.specs.Sampling.{flag, texels}
@@ -20,5 +20,5 @@ unfolding table tab tabFrom concat mem any distinct trail given andThen prepend 
     picture plain plainRow lookup lookupRow texel paletted direct key keyOf kept keptCount
     first settle call recordTile lineOf recordLine lowDigits reversed decimal lineText listing
     written marks marked tileStores storesIn outsideIn recordTests countOf left outcome inFile replayed lines texts replayText
-    howMany madeUp entryStores entryRow blockCall
+    all same howMany madeUp entryStores entryRow blockCall
 worked = tt

@@ -1,5 +1,5 @@
 -- Lists, choices, bits and maps: the words that every rule uses.
-use mathlib.Core.Bool.{Bool, false, cond, _||_}
+use mathlib.Core.Bool.{Bool, true, false, cond, _&&_, _||_}
 use mathlib.Core.List.{List, [], _∷_, _++_}
 use Prim.Native.Nat.{ℕ, zero, suc, _+_, _*_, _/_, _%_, _^_}
 use lib.Bits.{bitOr}
@@ -41,6 +41,23 @@ mem a (x ∷ l) = eqb a x || mem a l
 unfoldable pub any : {A : Type 0} → (A → Bool) → List A → Bool
 any f [] = false
 any f (x ∷ l) = f x || any f l
+
+-- f holds of all in the list
+unfoldable pub all : {A : Type 0} → (A → Bool) → List A → Bool
+all f [] = true
+all f (x ∷ l) = f x && all f l
+
+-- there is nothing in the list
+abbrev pub empty : {A : Type 0} → List A → Bool
+empty [] = true
+empty (x ∷ l) = false
+
+-- the two lists have the same numbers
+unfoldable pub same : List ℕ → List ℕ → Bool
+same [] [] = true
+same [] (y ∷ m) = false
+same (x ∷ l) [] = false
+same (x ∷ l) (y ∷ m) = eqb x y && same l m
 
 -- of how many in the list f holds
 unfoldable pub howMany : {A : Type 0} → (A → Bool) → List A → ℕ

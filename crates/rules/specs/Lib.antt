@@ -13,3 +13,5 @@ pub mod Calls
 pub mod Lister
 pub mod Replay
 pub mod Worked
+pub mod Pam
+pub mod PamWorked

@@ -74,6 +74,10 @@ loadTileFrom fmt siz line tmem-addr = tileFrom fmt siz 0 0 0 0 0 line tmem-addr 
 abbrev pub sideLimit : ℕ
 sideLimit = 1024
 
+-- a side of a picture is above it
+abbrev pub sidesOutside : ℕ → ℕ → Bool
+sidesOutside width height = ltb sideLimit width || ltb sideLimit height
+
 -- "Of the tile a load takes fmt, siz, line and tmem_addr alone": one of them is outside its range
 abbrev pub loadFieldsOutside : Tile → Bool
 loadFieldsOutside t = ltb 7 (t .fmt) || ltb 3 (t .siz) || ltb 511 (t .line) || ltb 511 (t .tmem-addr)

@@ -1,11 +1,10 @@
 -- "Banks and texels worked by hand": P1 to P12 in one table, with the fourth slip, the lister's example, a replay and what loads make up
 -- beside them. "Fields not named are 0, the bank is fresh." `Rattle.rules.proofs.Worked` proves every row.
-use mathlib.Core.Bool.{Bool, true, false, cond}
+use mathlib.Core.Bool.{Bool, true}
 use mathlib.Core.List.{List, [], _∷_, _++_, map}
 use Prim.Native.Nat.{ℕ, _+_}
-use lib.Dec.{eqb}
 use lib.ListN.{set, replicate, take, drop}
-use Rattle.rules.specs.Base.{one, tab, concat}
+use Rattle.rules.specs.Base.{one, tab, concat, all, same}
 use Rattle.rules.specs.Reading.{trail}
 use Rattle.rules.specs.Tile.{Tile, bankSize, mapSize}
 use Rattle.rules.specs.Texdec.{rgba16Texel, ia4Texel, ia8Texel}
@@ -195,12 +194,5 @@ table =
     ∷ []
 
 -- the two lists of every case are the same
-abbrev pub same : List ℕ → List ℕ → Bool
-same [] [] = true
-same [] (x ∷ l) = false
-same (x ∷ l) [] = false
-same (x ∷ l) (y ∷ m) = cond (eqb x y) (same l m) false
-
 abbrev pub allSame : List Case → Bool
-allSame [] = true
-allSame (c ∷ l) = cond (same (c .found) (c .expected)) (allSame l) false
+allSame cases = all (λ c. same (c .found) (c .expected)) cases

@@ -1,5 +1,5 @@
 //! The bank, and the calls on it.
-use crate::{slices, AddressMap, LaneMap, Refusal, Tile};
+use crate::{slices, AddressMap, LaneMap, Picture, Refusal, Tile};
 
 /// The bytes of a bank, and of a key.
 pub const BANK_BYTES: usize = 4096;
@@ -170,6 +170,23 @@ impl Bank {
         let mut picture = vec![0; 4 * tile.texels()?];
         self.sample_tile_into(tile, lane, &mut picture)?;
         Ok(picture)
+    }
+
+    /// The plain picture with its size, as it is written to a file.
+    ///
+    /// ```
+    /// use tulonkasa::{Bank, Tile};
+    ///
+    /// let tile = Tile { fmt: 4, siz: 1, line: 1, width: 2, height: 3, ..Tile::default() };
+    /// let picture = Bank::from([9; 4096]).picture(&tile, 0)?;
+    /// assert_eq!((picture.width, picture.height), (2, 3));
+    /// assert_eq!(picture.texels, [9; 4 * 2 * 3]);
+    /// assert_eq!(picture.to_pam()?.len(), 65 + 4 * 2 * 3);
+    /// # Ok::<(), tulonkasa::Refusal>(())
+    /// ```
+    pub fn picture(&self, tile: &Tile, lane: u32) -> Result<Picture, Refusal> {
+        let texels = self.sample_tile(tile, lane)?;
+        Ok(Picture { width: tile.width, height: tile.height, texels })
     }
 
     /// The plain picture into a lent buffer, whose surplus stays as it is. Answers the count of reads.

@@ -6,7 +6,7 @@
 //! Each pointer must be good for its length (a length of 0 allows any pointer), and the buffers of one call must not
 //! overlap. Nothing else is asked: every number and every length is taken or refused.
 
-/// A refusal, and a count of reads or kept bytes, or of a record's stores.
+/// A refusal, and a count of reads, kept bytes or a file's bytes, or of a record's stores.
 #[repr(C)]
 #[derive(Clone, Copy, Debug, PartialEq, Eq)]
 pub struct Answer {
@@ -29,6 +29,15 @@ pub struct LoadAnswer {
 pub struct SamplingAnswer {
     pub refusal: u32,
     pub flag: u32,
+    pub width: u32,
+    pub height: u32,
+}
+
+/// A refusal, and the size of a picture that was read.
+#[repr(C)]
+#[derive(Clone, Copy, Debug, PartialEq, Eq)]
+pub struct SizeAnswer {
+    pub refusal: u32,
     pub width: u32,
     pub height: u32,
 }
@@ -106,6 +115,17 @@ extern "C" {
         rows: u32,
         stride: u32,
     ) -> LoadAnswer;
+
+    pub fn tk_write_pam(
+        width: u32,
+        height: u32,
+        picture: *const u8,
+        picture_length: usize,
+        file: *mut u8,
+        file_length: usize,
+    ) -> Answer;
+
+    pub fn tk_read_pam(file: *const u8, file_length: usize, picture: *mut u8, picture_length: usize) -> SizeAnswer;
 
     pub fn tk_palette_nonreplicated(bank: *const u8, bank_length: usize, map: *mut u8, map_length: usize) -> u32;
 

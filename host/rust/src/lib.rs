@@ -1,11 +1,12 @@
-//! Texture memory of a cartridge game console: loads, pictures, a key for each picture, and the replay of captured loads.
+//! Texture memory of a cartridge game console: loads, pictures (as files too), a key for each picture, and the replay of
+//! captured loads.
 //!
 //! The work is done by a static library whose every function is proved to meet its contract on every input. This crate
 //! gives it Rust's types: a [`Bank`] of memory, a [`Tile`] that says how to read it, and a [`Refusal`] where a number is out
 //! of range. No call panics, and a refused one changes nothing.
 //!
 //! ```
-//! use tulonkasa::{Bank, Refusal, Tile};
+//! use tulonkasa::{Bank, Refusal, Tile, SIDE_MOST};
 //!
 //! let mut bank = Bank::new();
 //! let tile = Tile { fmt: 0, siz: 2, line: 1, width: 4, height: 1, ..Tile::default() };
@@ -17,7 +18,7 @@
 //! let key = bank.key(&tile, 0)?;
 //! assert_eq!(key.kept, 8);
 //!
-//! let wide = Tile { width: 1025, ..tile };
+//! let wide = Tile { width: SIDE_MOST + 1, ..tile };
 //! assert_eq!(bank.sample_tile(&wide, 0), Err(Refusal::Tile));
 //! # Ok::<(), Refusal>(())
 //! ```
@@ -25,14 +26,16 @@
 mod bank;
 pub mod ffi;
 mod map;
+mod picture;
 mod refusal;
 pub mod slices;
 mod tile;
 
 pub use bank::{Bank, Key, Loaded, Observed, BANK_BYTES, LOOKUP_TEXELS};
 pub use map::{AddressMap, LaneMap, Map};
+pub use picture::{Picture, PAM_HEADER_MOST};
 pub use refusal::Refusal;
-pub use tile::{Sampling, Tile};
+pub use tile::{Sampling, Tile, SIDE_MOST};
 
 #[cfg(test)]
 mod tests;

@@ -7,7 +7,7 @@ use std::fmt;
 pub enum Refusal {
     /// 1: a bank, key or map has a wrong length. The calls of [`crate::slices`] can get it; those on this crate's own types can't.
     Length,
-    /// 2: a field of the tile is out of range.
+    /// 2: a field of the tile is out of range, or a side of a picture is above [`crate::SIDE_MOST`].
     Tile,
     /// 3: mode or lane is above 3.
     ModeOrLane,
@@ -15,7 +15,7 @@ pub enum Refusal {
     Load,
     /// 5: the mode does not accept this pair of format and size.
     Pair,
-    /// 6: the picture's buffer is shorter than 4 bytes a texel.
+    /// 6: the picture's buffer is shorter than 4 bytes a texel, or the file's than the file.
     Picture,
     /// 7: the trail's buffer is shorter than 2 bytes a read.
     Trail,
@@ -27,6 +27,14 @@ pub enum Refusal {
     Kind,
     /// 11: the source of a capture's record goes beyond the companion file, or beyond the part of it that was lent.
     Beyond,
+    /// 12: a picture to be written as a file has a zero side.
+    ZeroSide,
+    /// 13: a file's header breaks the PAM description. A zero side does.
+    Header,
+    /// 14: a file's depth, maximum or tuple type is another, or it has no tuple type.
+    Tuples,
+    /// 15: a file has fewer texel bytes than its header calls for.
+    Texels,
     /// A number that this crate has no name for.
     Other(u32),
 }
@@ -47,6 +55,10 @@ impl Refusal {
             9 => Self::Unknown,
             10 => Self::Kind,
             11 => Self::Beyond,
+            12 => Self::ZeroSide,
+            13 => Self::Header,
+            14 => Self::Tuples,
+            15 => Self::Texels,
             other => Self::Other(other),
         })
     }
@@ -65,6 +77,10 @@ impl Refusal {
             Self::Unknown => 9,
             Self::Kind => 10,
             Self::Beyond => 11,
+            Self::ZeroSide => 12,
+            Self::Header => 13,
+            Self::Tuples => 14,
+            Self::Texels => 15,
             Self::Other(number) => number,
         }
     }
@@ -82,16 +98,20 @@ impl fmt::Display for Refusal {
     fn fmt(&self, f: &mut fmt::Formatter<'_>) -> fmt::Result {
         let words = match self {
             Self::Length => "a bank, key or map has a wrong length",
-            Self::Tile => "a field of the tile is out of range",
+            Self::Tile => "a field of the tile is out of range, or a side of the picture",
             Self::ModeOrLane => "mode or lane is above 3",
             Self::Load => "a number of the load or its source's length is out of range",
             Self::Pair => "the mode does not accept this pair of format and size",
-            Self::Picture => "the picture's buffer is too short",
+            Self::Picture => "the buffer of the picture or of its file is too short",
             Self::Trail => "the trail's buffer is too short",
             Self::Torn => "a record has fewer than 48 bytes",
             Self::Unknown => "the texel step does not know this pair of format and size",
             Self::Kind => "the kind of the record is above 3",
             Self::Beyond => "the record's source goes beyond the companion file",
+            Self::ZeroSide => "the picture has a zero side, which a file can't have",
+            Self::Header => "the file's header breaks the PAM description",
+            Self::Tuples => "the file's depth is not 4, its maximum not 255, or its tuple type not RGB_ALPHA",
+            Self::Texels => "the file has fewer texel bytes than its header calls for",
             Self::Other(_) => "a refusal without a name",
         };
         write!(f, "refusal {}: {words}", self.number())

@@ -113,6 +113,22 @@ pub fn sampling_lookup_observed(
     counted(call!(tk_sampling_lookup_observed([bank], tile, lane, [mut picture], [mut trail])))
 }
 
+/// Writes a picture as a PAM file, and answers the count of the file's bytes. A file of [`crate::PAM_HEADER_MOST`] bytes and four
+/// a texel is long enough.
+pub fn write_pam(width: u32, height: u32, picture: &[u8], file: &mut [u8]) -> Result<u32, Refusal> {
+    // SAFETY: each pointer comes with its slice's length, and Rust's borrows do not overlap.
+    let answer =
+        unsafe { ffi::tk_write_pam(width, height, picture.as_ptr(), picture.len(), file.as_mut_ptr(), file.len()) };
+    counted(answer)
+}
+
+/// Reads a PAM file, and answers the picture's width and height. A picture as long as the file is long enough.
+pub fn read_pam(file: &[u8], picture: &mut [u8]) -> Result<(u32, u32), Refusal> {
+    // SAFETY: each pointer comes with its slice's length, and Rust's borrows do not overlap.
+    let answer = unsafe { ffi::tk_read_pam(file.as_ptr(), file.len(), picture.as_mut_ptr(), picture.len()) };
+    Refusal::check(answer.refusal, (answer.width, answer.height))
+}
+
 /// Overwrites the map.
 pub fn reach(tile: &Tile, map: &mut [u8]) -> Result<(), Refusal> {
     Refusal::check(call!(tk_reach(tile, [mut map])), ())

@@ -1,5 +1,5 @@
 //! The worked examples and the limits, through the safe calls.
-use crate::{Bank, Loaded, Refusal, Tile, LOOKUP_TEXELS};
+use crate::{Bank, Loaded, Refusal, Tile, LOOKUP_TEXELS, SIDE_MOST};
 
 /// 0, 1, 2, .. n - 1.
 fn rising(n: u8) -> Vec<u8> {
@@ -155,12 +155,13 @@ fn uneven_slots() {
 #[test]
 fn limits() {
     let bank = Bank::new();
-    let tile = Tile { fmt: 4, siz: 1, width: 1024, height: 1, ..Tile::default() };
-    assert_eq!(bank.sample_tile(&tile, 0).map(|picture| picture.len()), Ok(4096));
-    assert_eq!(bank.sample_tile(&Tile { width: 1025, ..tile }, 0), Err(Refusal::Tile));
+    let tile = Tile { fmt: 4, siz: 1, width: SIDE_MOST, height: 1, ..Tile::default() };
+    let bytes = 4 * SIDE_MOST as usize;
+    assert_eq!(bank.sample_tile(&tile, 0).map(|picture| picture.len()), Ok(bytes));
+    assert_eq!(bank.sample_tile(&Tile { width: SIDE_MOST + 1, ..tile }, 0), Err(Refusal::Tile));
     assert_eq!(bank.sample_tile(&Tile { width: u32::MAX, ..tile }, 0), Err(Refusal::Tile));
     assert_eq!(bank.sample_tile(&Tile { width: 0, ..tile }, 0), Ok(vec![]));
-    assert_eq!(bank.sample_tile_into(&tile, 0, &mut [0; 4095]), Err(Refusal::Picture));
+    assert_eq!(bank.sample_tile_into(&tile, 0, &mut vec![0; bytes - 1]), Err(Refusal::Picture));
     assert_eq!(bank.sample_tile_into(&tile, 0, &mut []), Err(Refusal::Picture));
     assert_eq!(bank.sample_tile(&tile, 4), Err(Refusal::ModeOrLane));
     assert_eq!(bank.sample_tile(&Tile { mode: 4, ..tile }, 0), Err(Refusal::ModeOrLane));
@@ -307,5 +308,5 @@ fn refusals_have_their_numbers() {
         assert_eq!(Refusal::from_number(number).unwrap().number(), number);
     }
     assert_eq!(Refusal::from_number(0), None);
-    assert_eq!(Refusal::Tile.to_string(), "refusal 2: a field of the tile is out of range");
+    assert_eq!(Refusal::Texels.to_string(), "refusal 15: the file has fewer texel bytes than its header calls for");
 }

@@ -1,6 +1,9 @@
 //! The tile record, and the calls that need no bank.
 use crate::{slices, AddressMap, Refusal};
 
+/// The width and height of a tile or a picture are at most this.
+pub const SIDE_MOST: u32 = 1024;
+
 /// A tile and its mode. The default is all zero: a tile at the bank's start, of no texels.
 ///
 /// Every number can be written down; one out of range is refused by the call that it is given to.
@@ -26,9 +29,9 @@ pub struct Tile {
     pub line: u32,
     /// The word of eight bytes at which the tile begins, 0 to 511.
     pub tmem_addr: u32,
-    /// Texels across, 0 to 1,024.
+    /// Texels across, 0 to [`SIDE_MOST`].
     pub width: u32,
-    /// Texels down, 0 to 1,024.
+    /// Texels down, 0 to [`SIDE_MOST`].
     pub height: u32,
 }
 

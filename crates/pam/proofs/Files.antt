@@ -1,0 +1,54 @@
+-- A file written part by part, and what is known where writing it is not refused.
+use mathlib.Core.Path.{_≡_, refl, ap, sym, _∙_}
+use mathlib.Core.List.{List, [], _∷_, _++_, append-assoc}
+use Prim.Native.Nat.{ℕ, _+_, _*_, _≤_}
+use native.Mathlib.Omega.{arith}
+use native.Mathlib.Nat.{mul-le-mul}
+use lib.ListN.{length, take, length-append}
+use lib.Seq.{take-at}
+use borrow.Author.Tests.{ltb-false}
+use Rattle.rules.specs.Base.{over}
+use Rattle.rules.specs.Tile.{sideLimit}
+use Rattle.rules.specs.Refusal.{first}
+use Rattle.rules.specs.Lister.{decimal, numberText}
+use Rattle.rules.specs.Pam.{text, ended, pamHeader, texelBytes, pamSize, pamWriteTests}
+use Rattle.rules.proofs.Refused.{Passed, numbered, passed}
+use Rattle.decimal.proofs.Decimals.{decimal-short}
+use Rattle.pam.specs.Tests.{headerMost}
+use Rattle.pam.proofs.Sides.{Within, within}
+
+-- the header's parts, as they are written
+abbrev pub headerParts : ℕ → ℕ → List ℕ
+headerParts w h =
+    (((text "P7\nWIDTH " ++ numberText w 10) ++ text "HEIGHT ") ++ numberText h 10)
+    ++ text "DEPTH 4\nMAXVAL 255\nTUPLTYPE RGB_ALPHA\nENDHDR\n"
+
+pub header-parts : (w h : ℕ) → headerParts w h ≡ pamHeader w h
+unfolding text ended pamHeader
+header-parts w h = simp append-assoc
+
+pub header-short : (w h : ℕ) → length (pamHeader w h) ≤ headerMost
+unfolding text ended pamHeader
+header-short w h = simp length-append (omega (arith, decimal-short w, decimal-short h))
+
+-- nothing is refused
+pub record Fits (w h : ℕ) (picture file : List ℕ) : Type 0 where
+  pub sides : Within w h
+  pub texels : texelBytes w h ≤ length picture
+  pub room : pamSize w h ≤ length file
+
+pub fits : (w h : ℕ) (picture file : List ℕ) → first (pamWriteTests w h picture file) ≡ 0 → Fits w h picture file
+unfolding Passed
+fits w h picture file e =
+    let p = passed (pamWriteTests w h picture file) (numbered (pamWriteTests w h picture file) refl) e in
+    record { sides = within w h (p .0); texels = ltb-false _ _ (p .1 .1 .0); room = ltb-false _ _ (p .1 .1 .1 .0) }
+
+-- the header's bytes at the front of the array that it was made in
+pub header-front : (w h size : ℕ) (old xs : List ℕ) → size ≡ length (pamHeader w h) → xs ≡ over (pamHeader w h) old
+    → take size xs ≡ pamHeader w h
+unfolding over
+header-front w h size old xs n e = rw (e, take-at (pamHeader w h) _ size (sym n))
+
+-- the count of a file's bytes
+pub size-small : (w h : ℕ) → Within w h → pamSize w h ≤ headerMost + 4 * (sideLimit * sideLimit)
+size-small w h s = omega (arith, header-short w h, mul-le-mul (s .width) (s .height))

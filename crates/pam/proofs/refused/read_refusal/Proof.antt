@@ -1,0 +1,71 @@
+-- `pam::refused::read_refusal` tests from the last to the first. Assumes nothing.
+use mathlib.Core.Path.{_≡_, _∙_}
+use mathlib.Core.Bool.{cond}
+use Prim.Native.Nat.{_-_}
+use lib.Dec.{ltb}
+use Rattle.rules.specs.Refusal.{first}
+use borrow.Author.Needs.{needs}
+use Rattle.pam.proofs.refused.read_refusal.Statement.{statement}
+use Rattle.pam.proofs.refused.read_refusal.Tie as tie
+
+texel-bytes-requires : tie.Need-texel-bytes-requires
+texel-bytes-requires c κs = search needs
+
+refuse-requires : tie.Need-refuse-requires
+refuse-requires c κs = search needs
+
+sub-refuse : tie.Need-sub-refuse
+sub-refuse c = search needs
+
+refuse-requires-2 : tie.Need-refuse-requires-2
+refuse-requires-2 c κs = search needs
+
+sides-outside-requires : tie.Need-sides-outside-requires
+sides-outside-requires c κs = search needs
+
+refuse-requires-3 : tie.Need-refuse-requires-3
+refuse-requires-3 c κs = search needs
+
+has-other-tuples-requires : tie.Need-has-other-tuples-requires
+has-other-tuples-requires c κs = search needs
+
+refuse-requires-4 : tie.Need-refuse-requires-4
+refuse-requires-4 c κs = search needs
+
+is-broken-requires : tie.Need-is-broken-requires
+is-broken-requires c κs = search needs
+
+refuse-requires-5 : tie.Need-refuse-requires-5
+refuse-requires-5 c κs = search needs
+
+returns : tie.Need-returns
+unfolding first
+returns c =
+    let o = c .before .before in
+    let s = o .before .before in
+    let t = s .before .before in
+    let p = t .before .before in
+    let n = p .before in
+    let a = n .before .before .args in
+    let e = n .texel-bytes .ensures in
+    let six = p .refuse .ensures ∙ (λ i. cond (ltb (a .picture) (e i)) 6 0) in
+    let fifteen = t .refuse2 .ensures ∙ (λ i. cond (ltb (a .file - a .header .size) (e i)) 15 (six i)) in
+    let two = s .refuse3 .ensures ∙ (λ i. cond (s .before .sides-outside .ensures i) 2 (fifteen i)) in
+    let fourteen = o .refuse4 .ensures ∙ (λ i. cond (o .before .has-other-tuples .ensures i) 14 (two i)) in
+    c .refuse5 .ensures ∙ (λ i. cond (c .before .is-broken .ensures i) 13 (fourteen i))
+
+pub read-refusal-spec : {M : Type 1} → statement M
+read-refusal-spec =
+    tie.close
+    (tie.spec
+    texel-bytes-requires
+    refuse-requires
+    sub-refuse
+    refuse-requires-2
+    sides-outside-requires
+    refuse-requires-3
+    has-other-tuples-requires
+    refuse-requires-4
+    is-broken-requires
+    refuse-requires-5
+    returns)

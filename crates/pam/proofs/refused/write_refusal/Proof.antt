@@ -1,0 +1,65 @@
+-- `pam::refused::write_refusal` tests the sides first, since their product may not fit. Assumes nothing.
+use mathlib.Core.Path.{_≡_, sym, _∙_}
+use mathlib.Core.Bool.{true, false, cond, _||_}
+use Prim.Native.Nat.{_+_, _≤_}
+use native.Mathlib.Omega.{arith}
+use native.Mathlib.Nat.{mul-le-mul}
+use lib.Dec.{eqb, ltb}
+use Rattle.rules.specs.Tile.{sideLimit, sidesOutside}
+use Rattle.rules.specs.Refusal.{first}
+use Rattle.pam.proofs.Sides.{Within, within}
+use borrow.Author.Needs.{needs}
+use Rattle.pam.proofs.refused.write_refusal.Statement.{statement}
+use Rattle.pam.proofs.refused.write_refusal.Tie as tie
+
+-- no side is above the limit
+sides : (c : tie.Else1) → let a = c .before .before .args in Within (a .width) (a .height)
+sides c = within _ _ (sym (c .before .sides-outside .ensures) ∙ c .if1 .left)
+
+sides-outside-requires : tie.Need-sides-outside-requires
+sides-outside-requires c κs = search needs
+
+returns : tie.Need-returns
+unfolding first
+returns c = rw (sym (c .before .sides-outside .ensures) ∙ c .if1 .taken)
+
+texel-bytes-requires : tie.Need-texel-bytes-requires
+texel-bytes-requires c κs = let w = sides c in (omega (arith, w .width), omega (arith, w .height))
+
+add-refuse : tie.Need-add-refuse
+add-refuse c = record { fits = omega (arith, c .texel-bytes .ensures, mul-le-mul (sides (c .before) .width) (sides (c .before) .height)) }
+
+refuse-requires : tie.Need-refuse-requires
+refuse-requires c κs = search needs
+
+refuse-requires-2 : tie.Need-refuse-requires-2
+refuse-requires-2 c κs = search needs
+
+refuse-requires-3 : tie.Need-refuse-requires-3
+refuse-requires-3 c κs = search needs
+
+returns-2 : tie.Need-returns-2
+unfolding first
+returns-2 c =
+    let p = c .before .before in
+    let n = p .before in
+    let s = n .before in
+    let a = s .before .before .args in
+    let e = n .texel-bytes .ensures in
+    let file = p .refuse .ensures ∙ (λ i. cond (ltb (a .file) (a .header + e i)) 6 0) in
+    let picture = c .before .refuse2 .ensures ∙ (λ i. cond (ltb (a .picture) (e i)) 6 (file i)) in
+    rw (sym (s .before .sides-outside .ensures) ∙ s .if1 .left)
+    (c .refuse3 .ensures ∙ (λ i. cond (eqb (a .width) 0 || eqb (a .height) 0) 12 (picture i)))
+
+pub write-refusal-spec : {M : Type 1} → statement M
+write-refusal-spec =
+    tie.close
+    (tie.spec
+    sides-outside-requires
+    returns
+    texel-bytes-requires
+    add-refuse
+    refuse-requires
+    refuse-requires-2
+    refuse-requires-3
+    returns-2)

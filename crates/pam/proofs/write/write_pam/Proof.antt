@@ -1,0 +1,109 @@
+-- `pam::write::write_pam` makes the header first, so that its length is known before anything is written. Assumes nothing.
+use mathlib.Core.Path.{_≡_, ap, sym, _∙_}
+use mathlib.Core.List.{[], _∷_, _++_}
+use Prim.Native.Nat.{_+_, _≤_}
+use native.Mathlib.Omega.{arith}
+use lib.ListN.{length, take}
+use lib.Seq.{length-take-le}
+use Rattle.rules.specs.Base.{over}
+use Rattle.rules.specs.Refusal.{first}
+use Rattle.rules.specs.Pam.{pamHeader, pamFile, texelBytes, pamSize, pamWriteTests, pamWriteCall}
+use Rattle.rules.proofs.Refused.{refused-is, done-is}
+use Rattle.pam.specs.Tests.{writeTests}
+use Rattle.pam.proofs.Files.{Fits, fits, header-front, header-short, size-small}
+use borrow.Author.Needs.{needs}
+use Rattle.pam.proofs.write.write_pam.Statement.{statement}
+use Rattle.pam.proofs.write.write_pam.Tie as tie
+
+-- what is tested is the rule's
+tested : (c : tie.After-write-refusal) → let a = c .before .before .before .before .before .before .args in
+    c .write-refusal .result ≡ first (pamWriteTests (a .width) (a .height) (a .picture .now) (a .file .now))
+tested c =
+    let h = c .before .before in
+    let a = h .before .before .before .before .args in
+    c .write-refusal .ensures
+    ∙ ap (λ n. first (writeTests (a .width) (a .height) (length (a .picture .now)) n (length (a .file .now)))) (h .put-header .ensures .0)
+
+fit : (c : tie.Else1) → let a = c .before .before .before .before .before .before .before .args in
+    Fits (a .width) (a .height) (a .picture .now) (a .file .now)
+fit c = fits _ _ _ _ (sym (tested (c .before)) ∙ c .if1 .left)
+
+-- the front of the array is the header
+front : (c : tie.After-put-header) → let a = c .before .before .before .before .args in
+    take (c .put-header .result) (c .put-header .last .1 .1 .0) ≡ pamHeader (a .width) (a .height)
+front c = let a = c .before .before .before .before .args in header-front (a .width) (a .height) _ _ _ (c .put-header .ensures .0) (c .put-header .ensures .1 .1)
+
+slice-aggregate-put-header : tie.Need-slice-aggregate-put-header
+slice-aggregate-put-header c = search needs
+
+put-header-requires : tie.Need-put-header-requires
+put-header-requires c κs = search needs
+
+write-refusal-requires : tie.Need-write-refusal-requires
+write-refusal-requires c κs = search needs
+
+returns : tie.Need-returns
+unfolding pamWriteCall
+returns c =
+    let a = c .before .before .before .before .before .before .before .args in
+    refused-is (pamWriteTests (a .width) (a .height) (a .picture .now) (a .file .now)) _ _ _ _ (tested (c .before)) (c .if1 .taken)
+
+texel-bytes-requires : tie.Need-texel-bytes-requires
+texel-bytes-requires c κs = let s = fit c .sides in (omega (arith, s .width), omega (arith, s .height))
+
+array-share-prefix-header : tie.Need-array-share-prefix-header
+array-share-prefix-header c = search needs
+
+slice-aggregate-put-file : tie.Need-slice-aggregate-put-file
+slice-aggregate-put-file c =
+    let h = c .before .before .before .before .before in
+    h .put-header .ensures .0 ∙ ap length (sym (front h))
+
+put-file-requires : tie.Need-put-file-requires
+put-file-requires c κs =
+    let n = c .before .before in
+    let h = n .before .before .before .before in
+    let f = fit (n .before) in
+    let e = n .texel-bytes .ensures in
+    (omega (arith, e, f .texels), omega (arith, ap length (front h), e, f .room))
+
+cast-t19 : tie.Need-cast-t19
+cast-t19 c =
+    let p = c .before .before in
+    let n = p .before .before .before in
+    let h = n .before .before .before .before in
+    let a = h .before .before .before .before .args in
+    record { fits = omega (arith, p .put-file .ensures .0, ap length (front h), n .texel-bytes .ensures, size-small (a .width) (a .height) (fit (n .before) .sides)) }
+
+same-length : tie.Need-same-length
+same-length c = search needs
+
+returns-2 : tie.Need-returns-2
+unfolding pamWriteCall pamFile
+returns-2 c =
+    let p = c .before .before in
+    let n = p .before .before .before in
+    let h = n .before .before .before .before in
+    let a = h .before .before .before .before .args in
+    let file = a .file .now in
+    let size = p .put-file .ensures .0 ∙ (λ i. length (front h i) + n .texel-bytes .ensures i) in
+    let left = p .put-file .ensures .1 ∙ (λ i. over (front h i ++ take (n .texel-bytes .ensures i) (a .picture .now)) file) in
+    let none = sym (tested (n .before .before)) ∙ n .before .if1 .left in
+    (λ i. record { refusal = 0; numbers = size i ∷ []; buffers = left i ∷ [] })
+    ∙ done-is (pamWriteTests (a .width) (a .height) (a .picture .now) file) _ _ _ none
+
+pub write-pam-spec : {M : Type 1} → statement M
+write-pam-spec =
+    tie.close
+    (tie.spec
+    slice-aggregate-put-header
+    put-header-requires
+    write-refusal-requires
+    returns
+    texel-bytes-requires
+    array-share-prefix-header
+    slice-aggregate-put-file
+    put-file-requires
+    cast-t19
+    same-length
+    returns-2)
