@@ -1,17 +1,19 @@
 -- A file written part by part, and what is known where writing it is not refused.
-use mathlib.Core.Path.{_≡_, refl, ap, sym, _∙_}
-use mathlib.Core.List.{List, [], _∷_, _++_, append-assoc}
+use mathlib.Core.Path.{_≡_, refl, sym}
+use mathlib.Core.List.{List, _++_, append-assoc}
 use Prim.Native.Nat.{ℕ, _+_, _*_, _≤_}
 use native.Mathlib.Omega.{arith}
 use native.Mathlib.Nat.{mul-le-mul}
 use lib.ListN.{length, take, length-append}
 use lib.Seq.{take-at}
-use borrow.Author.Tests.{ltb-false}
+use lib.Dec.{eqb}
+use borrow.Author.Tests.{eqb-false, ltb-false}
 use Rattle.rules.specs.Base.{over}
 use Rattle.rules.specs.Tile.{sideLimit}
 use Rattle.rules.specs.Refusal.{first}
-use Rattle.rules.specs.Lister.{decimal, numberText}
+use Rattle.rules.specs.Lister.{numberText}
 use Rattle.rules.specs.Pam.{text, ended, pamHeader, texelBytes, pamSize, pamWriteTests}
+use Rattle.rules.proofs.Ranges.{neither}
 use Rattle.rules.proofs.Refused.{Passed, numbered, passed}
 use Rattle.decimal.proofs.Decimals.{decimal-short}
 use Rattle.pam.specs.Tests.{headerMost}
@@ -34,6 +36,8 @@ header-short w h = simp length-append (omega (arith, decimal-short w, decimal-sh
 -- nothing is refused
 pub record Fits (w h : ℕ) (picture file : List ℕ) : Type 0 where
   pub sides : Within w h
+  pub wide : 1 ≤ w
+  pub high : 1 ≤ h
   pub texels : texelBytes w h ≤ length picture
   pub room : pamSize w h ≤ length file
 
@@ -41,7 +45,14 @@ pub fits : (w h : ℕ) (picture file : List ℕ) → first (pamWriteTests w h pi
 unfolding Passed
 fits w h picture file e =
     let p = passed (pamWriteTests w h picture file) (numbered (pamWriteTests w h picture file) refl) e in
-    record { sides = within w h (p .0); texels = ltb-false _ _ (p .1 .1 .0); room = ltb-false _ _ (p .1 .1 .1 .0) }
+    let z = neither (eqb w 0) (eqb h 0) (p .1 .0) in
+    record {
+      sides = within w h (p .0);
+      wide = omega (arith, eqb-false w 0 (z .0));
+      high = omega (arith, eqb-false h 0 (z .1));
+      texels = ltb-false _ _ (p .1 .1 .0);
+      room = ltb-false _ _ (p .1 .1 .1 .0);
+    }
 
 -- the header's bytes at the front of the array that it was made in
 pub header-front : (w h size : ℕ) (old xs : List ℕ) → size ≡ length (pamHeader w h) → xs ≡ over (pamHeader w h) old

@@ -2,10 +2,10 @@
 use mathlib.Core.Path.{_≡_, refl, ap, sym, _∙_}
 use mathlib.Core.Bool.{Bool, true, false, cond, not, false≢true, _&&_, _||_}
 use mathlib.Core.List.{List, [], _∷_, _++_}
-use Prim.Native.Nat.{ℕ, zero, suc, min, _+_, _<_, _≤_}
+use Prim.Native.Nat.{ℕ, min, _+_, _<_, _≤_}
 use Prim.Native.String.{String}
 use native.Mathlib.Omega.{arith}
-use lib.Dec.{eqb, ltb}
+use lib.Dec.{eqb}
 use borrow.Author.Tests.{lt-ltb, ne-eqb, eqb-false}
 use Rattle.rules.specs.Base.{any, all, empty, same}
 use Rattle.rules.specs.Pam.{text, says, value, values, digit, number, isCount, once, stated, joined}
@@ -24,7 +24,8 @@ abbrev pub ofLine : {A : Type 0} → String → (A → List ℕ → A) → A →
 ofLine k f s l = cond (says k l) (f s (value l)) s
 
 -- line by line is value by value
-pub by-lines : {A : Type 0} (k : String) (f : A → List ℕ → A) (s : A) (ls : List (List ℕ)) → folded (ofLine k f) s ls ≡ folded f s (values k ls)
+pub by-lines : {A : Type 0} (k : String) (f : A → List ℕ → A) (s : A) (ls : List (List ℕ))
+    → folded (ofLine k f) s ls ≡ folded f s (values k ls)
 unfolding folded values
 by-lines k f s [] = refl
 by-lines {A} k f s (l ∷ ls) = go (says k l) (by-lines k f (f s (value l)) ls) (by-lines k f s ls)

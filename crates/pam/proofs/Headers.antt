@@ -1,5 +1,5 @@
 -- A header read line by line.
-use mathlib.Core.Path.{_≡_, refl, ap, sym, _∙_}
+use mathlib.Core.Path.{_≡_, ap, sym, _∙_}
 use mathlib.Core.Bool.{true, false, cond, false≢true}
 use mathlib.Core.List.{List, [], _∷_}
 use Prim.Native.Nat.{ℕ, _+_, _-_, _<_, _≤_}
@@ -49,7 +49,8 @@ module _ (file : List ℕ) (at end : ℕ) (s : Stated) (low : at ≤ end) (high 
       ∙ rw (readFrom, e) (ap (λ n. readFrom (n + 1) (noted s (lineOf line)) (lines (drop (end + 1) file))) ends)
 
 -- nothing is left of the file
-pub read-done : (file : List ℕ) (at : ℕ) (s : Stated) → length file ≤ at → readFrom at s (lines (drop at file)) ≡ record { stated = s; size = 0 }
+pub read-done : (file : List ℕ) (at : ℕ) (s : Stated) → length file ≤ at
+    → readFrom at s (lines (drop at file)) ≡ record { stated = s; size = 0 }
 unfolding readFrom lines
 read-done file at s h = rw (drop-of-length-le file h)
 

@@ -11,3 +11,6 @@ pub mod Headers
 pub mod Sides
 pub mod Copies
 pub mod Files
+pub mod Numerals
+pub mod Round
+pub mod One

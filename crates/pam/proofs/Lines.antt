@@ -1,6 +1,6 @@
 -- The lines of a text, one at a time.
 use mathlib.Core.Path.{_≡_, refl, ap, sym, _∙_}
-use mathlib.Core.Bool.{Bool, true, false, not, cond}
+use mathlib.Core.Bool.{Bool, true, not, cond}
 use mathlib.Core.List.{List, [], _∷_, _++_, append-assoc}
 use Prim.Native.Nat.{ℕ, suc, _+_, _-_, _<_, _≤_}
 use native.Mathlib.Omega.{arith}
@@ -11,7 +11,8 @@ use lib.Seq.{take-suc, take-all, drop-cons, drop-drop, getD-drop}
 use borrow.Author.Tests.{not-true, eq-eqb, ne-eqb}
 use Rattle.rules.specs.Base.{all}
 use Rattle.rules.specs.Pam.{onto, lines, ended}
-use Rattle.pam.proofs.Texts.{and-left, and-right, all-more}
+use Rattle.rules.proofs.Ranges.{both}
+use Rattle.pam.proofs.Texts.{all-more}
 
 -- no newline
 abbrev pub plain : ℕ → Bool
@@ -22,25 +23,24 @@ pub lines-first : (d s : List ℕ) → all plain d ≡ true → lines (d ++ (10 
 unfolding all lines
 lines-first [] s h = refl
 lines-first (b ∷ d) s h =
-    rw (lines, not-true (eqb b 10) (and-left (plain b) (all plain d) h))
-    (ap (onto b) (lines-first d s (and-right (plain b) (all plain d) h)))
+    let p = both (plain b) (all plain d) h in
+    rw (lines, not-true (eqb b 10) (p .0)) (ap (onto b) (lines-first d s (p .1)))
 
 -- what no newline follows is none
 pub lines-none : (d : List ℕ) → all plain d ≡ true → lines d ≡ []
 unfolding all lines
 lines-none [] h = refl
 lines-none (b ∷ d) h =
-    rw (lines, not-true (eqb b 10) (and-left (plain b) (all plain d) h))
-    (ap (onto b) (lines-none d (and-right (plain b) (all plain d) h)))
+    let p = both (plain b) (all plain d) h in
+    rw (lines, not-true (eqb b 10) (p .0)) (ap (onto b) (lines-none d (p .1)))
 
 -- lines that were written are read again, whatever follows
 pub lines-ended : (ls : List (List ℕ)) (s : List ℕ) → all (all plain) ls ≡ true → lines (ended ls ++ s) ≡ ls ++ lines s
 unfolding all ended
 lines-ended [] s h = refl
 lines-ended (l ∷ ls) s h =
-    let first = and-left (all plain l) (all (all plain) ls) h in
-    let others = and-right (all plain l) (all (all plain) ls) h in
-    rw (append-assoc, lines-first l (ended ls ++ s) first, lines-ended ls s others)
+    let p = both (all plain l) (all (all plain) ls) h in
+    rw (append-assoc, lines-first l (ended ls ++ s) (p .0), lines-ended ls s (p .1))
 
 -- A line of a file, which begins at `at` and goes to `i` at least.
 pub plain-none : (file : List ℕ) (at i : ℕ) → i ≡ at → all plain (take (i - at) (drop at file)) ≡ true

@@ -2,21 +2,22 @@
 use mathlib.Core.Path.{_≡_, refl, ap, sym, _∙_}
 use mathlib.Core.Bool.{Bool, true, false, cond, not, false≢true, _&&_, _||_}
 use mathlib.Core.List.{List, [], _∷_}
-use Prim.Native.Nat.{ℕ, min, _+_, _<_, _≤_}
+use Prim.Native.Nat.{ℕ, min, _+_, _≤_}
 use native.Mathlib.Omega.{arith}
 use lib.Dec.{eqb, ltb}
 use lib.ListN.{length, take, drop}
 use borrow.Author.Tests.{not-false, ne-eqb}
 use Rattle.rules.specs.Base.{any, empty, same}
-use Rattle.rules.specs.Pam.{text, lines, says, isEnd, unknownLine, fields, linesSize, value, values, once, stated, joined, headerOf, pamHead}
-use Rattle.rules.specs.Pam.{Header as RuleHeader}
+use Rattle.rules.specs.Pam.{Header as RuleHeader, text, lines, says, isEnd, unknownLine, fields, linesSize, value, values, once, stated}
+use Rattle.rules.specs.Pam.{headerOf, pamHead}
 use Rattle.rules.proofs.Ranges.{neither}
-use Rattle.pam.specs.Line.{most, countOf, tupleOf, lineOf}
-use Rattle.pam.specs.Gather.{bad, stateAfter, statedOnce, tupleAfter, noLines, noted, readFrom, headerBy, brokenBy}
+use Rattle.pam.specs.Line.{most, tupleOf, lineOf}
+use Rattle.pam.specs.Gather.{bad, statedOnce, noLines, noted, readFrom, headerBy, brokenBy}
 use Rattle.pam.specs.declared.header.Stated.{Stated}
 use Rattle.pam.specs.declared.header.Header.{Header}
 use Rattle.pam.proofs.Caps.{above-capped}
-use Rattle.pam.proofs.Gathers.{folded, ofLine, by-lines, any-folded, numberStep, tupleStep, Says, number-says, number-small, tuple-says}
+use Rattle.pam.proofs.Gathers.{folded, ofLine, by-lines, any-folded, numberStep, Says, number-says, number-small}
+use Rattle.pam.proofs.Gathers.{tupleStep, tuple-says}
 
 abbrev noteStep : Stated → List ℕ → Stated
 noteStep s l = noted s (lineOf l)
@@ -42,14 +43,14 @@ untyped-line false false v = refl
 -- the lines, field by field
 by-fields : (s : Stated) (ls : List (List ℕ)) → folded noteStep s ls
     ≡ record {
-    width = folded (ofLine "WIDTH" numberStep) (s .width) ls;
-    height = folded (ofLine "HEIGHT" numberStep) (s .height) ls;
-    depth = folded (ofLine "DEPTH" numberStep) (s .depth) ls;
-    maxval = folded (ofLine "MAXVAL" numberStep) (s .maxval) ls;
-    tuple = folded (ofLine "TUPLTYPE" tupleStep) (s .tuple) ls;
-    unknown = folded unknownStep (s .unknown) ls;
-    untyped = folded (ofLine "TUPLTYPE" untypedStep) (s .untyped) ls;
-  }
+      width = folded (ofLine "WIDTH" numberStep) (s .width) ls;
+      height = folded (ofLine "HEIGHT" numberStep) (s .height) ls;
+      depth = folded (ofLine "DEPTH" numberStep) (s .depth) ls;
+      maxval = folded (ofLine "MAXVAL" numberStep) (s .maxval) ls;
+      tuple = folded (ofLine "TUPLTYPE" tupleStep) (s .tuple) ls;
+      unknown = folded unknownStep (s .unknown) ls;
+      untyped = folded (ofLine "TUPLTYPE" untypedStep) (s .untyped) ls;
+    }
 unfolding folded
 by-fields s [] = refl
 by-fields s (l ∷ ls) =
@@ -110,9 +111,11 @@ read-is at s (l ∷ ls) = go (isEnd l) (read-is (at + length l + 1) (noteStep s 
         let sum : at + length l + 1 + linesSize ls ≡ at + (length l + 1 + linesSize ls) = omega arith in
         ih ∙ (λ i. record { stated = folded noteStep (noteStep s l) (fields ls); size = cond (any isEnd ls) (sum i) 0 })
 
--- the header of a file, by its lines
-header-is : (file : List ℕ) → same (take 3 file) (text "P7\n") ≡ true → headerBy file
-    ≡ record { stated = statedBy (fields (lines (drop 3 file))); size = cond (any isEnd (lines (drop 3 file))) (3 + linesSize (lines (drop 3 file))) 0 }
+-- the header of lines after the first, as it is gathered
+abbrev gathered : List (List ℕ) → Header
+gathered ls = record { stated = statedBy (fields ls); size = cond (any isEnd ls) (3 + linesSize ls) 0 }
+
+header-is : (file : List ℕ) → same (take 3 file) (text "P7\n") ≡ true → headerBy file ≡ gathered (lines (drop 3 file))
 header-is file m =
     let ls : List (List ℕ) = lines (drop 3 file) in
     rw m (read-is 3 noLines ls ∙ (λ i. record { stated = by-values (fields ls) i; size = cond (any isEnd ls) (3 + linesSize ls) 0 }))
@@ -149,10 +152,7 @@ module _ (ls : List (List ℕ)) where
   abbrev fs : List (List ℕ)
   fs = fields ls
 
-  abbrev gathered : Header
-  gathered = record { stated = statedBy fs; size = cond (any isEnd ls) (3 + linesSize ls) 0 }
-
-  broken-says : brokenBy gathered ≡ headerOf true ls .broken
+  broken-says : brokenBy (gathered ls) ≡ headerOf true ls .broken
   unfolding headerOf
   broken-says =
       λ i. maximum-says
@@ -164,7 +164,7 @@ module _ (ls : List (List ℕ)) where
       (values "MAXVAL" fs) _ (number-says (values "MAXVAL" fs)) i
       || any empty (values "TUPLTYPE" fs)
 
-  states-all : headerOf true ls .broken ≡ false → States gathered (headerOf true ls)
+  states-all : headerOf true ls .broken ≡ false → States (gathered ls) (headerOf true ls)
   unfolding headerOf
   states-all h =
       let m = neither _ (ltb 65535 (stated (values "MAXVAL" fs))) (neither _ (any empty (values "TUPLTYPE" fs)) h .0) .0 in

@@ -1,5 +1,5 @@
 -- The tests of reading, by what was gathered, are the rule's.
-use mathlib.Core.Path.{_≡_, refl, ap, sym, _∙_}
+use mathlib.Core.Path.{_≡_, refl, ap, _∙_}
 use mathlib.Core.Bool.{Bool, true, false, cond, not, _&&_, _||_}
 use mathlib.Core.List.{List, [], _∷_}
 use Prim.Native.Nat.{ℕ, _+_, _-_, _≤_}
@@ -7,10 +7,9 @@ use native.Mathlib.Omega.{arith}
 use lib.Dec.{eqb, ltb}
 use lib.ListN.{length}
 use borrow.Author.Tests.{ltb-false}
-use Rattle.rules.specs.Base.{same}
 use Rattle.rules.specs.Tile.{sideLimit, sidesOutside}
 use Rattle.rules.specs.Refusal.{_if_, first}
-use Rattle.rules.specs.Pam.{Header as RuleHeader, text, texelBytes, otherTuples, pamReadTests}
+use Rattle.rules.specs.Pam.{Header as RuleHeader, texelBytes, otherTuples, pamReadTests}
 use Rattle.rules.proofs.Refused.{Passed, numbered, passed}
 use Rattle.pam.specs.Gather.{otherBy}
 use Rattle.pam.specs.Tests.{readTests}
@@ -77,7 +76,8 @@ module _ (file picture : List ℕ) (x : Header) (h : RuleHeader) (k : Seen x h) 
       go true e = refl
       go false e =
           let s = k .states e in
-          rw (other-is x h s, sides-are x h s) (ap (λ n. cond (otherTuples h) 14 n) (last-tests s (sidesOutside (h .width) (h .height)) refl))
+          let last = last-tests s (sidesOutside (h .width) (h .height)) refl in
+          rw (other-is x h s, sides-are x h s) (ap (λ n. cond (otherTuples h) 14 n) last)
 
 -- nothing is refused
 pub record Taken (x : Header) (h : RuleHeader) (file picture : List ℕ) : Type 0 where

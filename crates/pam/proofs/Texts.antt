@@ -1,6 +1,6 @@
 -- Texts compared, and what holds of all their bytes, a byte at a time.
-use mathlib.Core.Path.{_≡_, refl, ap, sym, _∙_}
-use mathlib.Core.Bool.{Bool, true, false, false≢true, _&&_}
+use mathlib.Core.Path.{_≡_, refl, ap, _∙_}
+use mathlib.Core.Bool.{Bool, true, false, _&&_}
 use mathlib.Core.List.{List, [], _∷_, _++_}
 use Prim.Native.Nat.{ℕ, zero, suc, _+_, _-_, _<_, _≤_}
 use native.Mathlib.Omega.{arith}
@@ -11,18 +11,11 @@ use lib.ListN.{length, getD, take, drop, length-take, length-drop, drop-of-lengt
 use lib.Seq.{drop-cons, take-all}
 use borrow.Author.Tests.{eq-eqb, ne-eqb}
 use Rattle.rules.specs.Base.{all, empty, same}
+use Rattle.rules.proofs.Ranges.{both}
 
 pub and-false : (t : Bool) → (t && false) ≡ false
 and-false true = refl
 and-false false = refl
-
-pub and-left : (a b : Bool) → (a && b) ≡ true → a ≡ true
-and-left true b h = refl
-and-left false b h = h
-
-pub and-right : (a b : Bool) → (a && b) ≡ true → b ≡ true
-and-right true b h = h
-and-right false b h = absurd (false≢true h)
 
 -- the part that starts at n
 pub rest-from : (s : List ℕ) (n : ℕ) → take (length s - n) (drop n s) ≡ drop n s
@@ -45,8 +38,7 @@ snoc-some (a ∷ l) b = refl
 pub all-more : (f : ℕ → Bool) (l : List ℕ) (b : ℕ) → all f l ≡ true → f b ≡ true → all f (l ++ (b ∷ [])) ≡ true
 unfolding all
 all-more f [] b h e = rw e
-all-more f (a ∷ l) b h e =
-    rw (and-left (f a) (all f l) h) (all-more f l b (and-right (f a) (all f l) h) e)
+all-more f (a ∷ l) b h e = let p = both (f a) (all f l) h in rw (p .0) (all-more f l b (p .1) e)
 
 -- a byte of which it does not hold
 pub all-not : (f : ℕ → Bool) (s : List ℕ) (i : ℕ) → i < length s → f (getD s i 0) ≡ false → all f s ≡ false

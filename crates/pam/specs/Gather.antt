@@ -2,12 +2,11 @@
 use mathlib.Core.Bool.{Bool, true, false, cond, not, _&&_, _||_}
 use mathlib.Core.List.{List, [], _∷_}
 use Prim.Native.Nat.{ℕ, _+_}
-use Prim.Native.String.{String}
 use lib.Dec.{eqb, ltb}
 use lib.ListN.{length, take, drop}
-use Rattle.rules.specs.Base.{empty, same}
+use Rattle.rules.specs.Base.{same}
 use Rattle.rules.specs.Pam.{text, lines, says, value, isEnd}
-use Rattle.pam.specs.Line.{most, countOf, tupleOf, lineOf}
+use Rattle.pam.specs.Line.{most, lineOf}
 use Rattle.pam.specs.declared.line.Line.{Line}
 use Rattle.pam.specs.declared.header.Stated.{Stated}
 use Rattle.pam.specs.declared.header.Header.{Header}
@@ -60,8 +59,8 @@ unfoldable pub readFrom : ℕ → Stated → List (List ℕ) → Header
 readFrom at s [] = record { stated = s; size = 0 }
 readFrom at s (l ∷ ls) =
     elim (isEnd l) [
-      true ↦ record { stated = s; size = at + length l + 1 }
-    | false ↦ readFrom (at + length l + 1) (noted s (lineOf l)) ls
+      | true ↦ record { stated = s; size = at + length l + 1 }
+      | false ↦ readFrom (at + length l + 1) (noted s (lineOf l)) ls
     ]
 
 -- the header of a file

@@ -1,13 +1,12 @@
 // The header of a file, line by line.
 ghost use mathlib.Core.Path.{_≡_};
-ghost use mathlib.Core.Bool.{cond, _||_, _&&_, not};
+ghost use mathlib.Core.Bool.{cond};
 ghost use mathlib.Core.List.{[], _∷_};
 ghost use Prim.Native.Nat.{_+_, _-_, _≤_};
 ghost use lib.Dec.{eqb};
 ghost use lib.ListN.{length, take, drop};
 ghost use Rattle.rules.specs.Base.{same};
 ghost use Rattle.rules.specs.Pam.{text, lines};
-ghost use Rattle.pam.specs.Line.{lineOf};
 ghost use Rattle.pam.specs.Gather.{stateAfter, tupleAfter, unknownBy, noted, noLines, readFrom, headerBy};
 use crate::line::Line;
 use crate::line::NO_TUPLE;

@@ -64,7 +64,7 @@ readTable =
     -- a comment right after the magic line
     ∷ (taken 2 1 texels (text "P7\n# made by hand\nWIDTH 2\n" ++ back))
     -- a comment right before ENDHDR, with bytes 0, 228 and 255 in it
-    ∷ (taken 2 1 texels (numbers ++ (text "TUPLTYPE RGB_ALPHA\n# \u{0}\u{e4}\u{ff}\n" ++ close)))
+    ∷ (taken 2 1 texels (numbers ++ (text "TUPLTYPE RGB_ALPHA\n# \0äÿ\n" ++ close)))
     -- comments that look like lines
     ∷ (taken 2 1 texels (front ++ (text "#WIDTH 9\n#ENDHDR\n" ++ rest)))
     -- a comment of 300 bytes
@@ -108,7 +108,7 @@ readTable =
     -- an empty line before it
     ∷ (refused 13 (text "\nP7\nWIDTH 2\n" ++ back))
     -- a byte-order mark before it
-    ∷ (refused 13 (text "\u{ef}\u{bb}\u{bf}P7\nWIDTH 2\n" ++ back))
+    ∷ (refused 13 (text "ï»¿P7\nWIDTH 2\n" ++ back))
     -- no newline after `P7`
     ∷ (refused 13 (text "P7 WIDTH 2\n" ++ back))
     -- no ENDHDR line
@@ -134,7 +134,7 @@ readTable =
     -- `#` after a space
     ∷ (refused 13 (front ++ (text " # hi\n" ++ rest)))
     -- a line of one zero byte
-    ∷ (refused 13 (front ++ (text "\u{0}\n" ++ rest)))
+    ∷ (refused 13 (front ++ (text "\0\n" ++ rest)))
     -- no-break space (160) is no white space
     ∷ (refused 13 (text "P7\nWIDTH\u{a0}2\n" ++ back))
     -- the tuple type stuck to its keyword
@@ -174,7 +174,7 @@ readTable =
     -- a number and a remark
     ∷ (refused 13 (text "P7\nWIDTH 2 # two\n" ++ back))
     -- a zero byte after the number
-    ∷ (refused 13 (text "P7\nWIDTH 2\u{0}\n" ++ back))
+    ∷ (refused 13 (text "P7\nWIDTH 2\0\n" ++ back))
     -- a zero width
     ∷ (refused 13 (text "P7\nWIDTH 0\nHEIGHT 1\nDEPTH 4\nMAXVAL 255\nTUPLTYPE RGB_ALPHA\nENDHDR\n"))
     -- a zero height
@@ -220,7 +220,7 @@ readTable =
     -- two TUPLTYPE lines, RGB and ALPHA
     ∷ (refused 14 (numbers ++ (text "TUPLTYPE RGB\nTUPLTYPE ALPHA\n" ++ close)))
     -- a byte above 127 in the tuple type
-    ∷ (refused 14 (numbers ++ (text "TUPLTYPE RGB_ALPHA\u{e4}\n" ++ close)))
+    ∷ (refused 14 (numbers ++ (text "TUPLTYPE RGB_ALPHAä\n" ++ close)))
     -- depth 3 beside a width above the limit: 14 before 2
     ∷ (refused 14 (text "P7\nWIDTH 5000\nHEIGHT 1\nDEPTH 3\nMAXVAL 255\nTUPLTYPE RGB\nENDHDR\n"))
     -- a width above the limit

@@ -2,7 +2,10 @@
 use mathlib.Core.Path.{_≡_}
 use mathlib.Core.List.{[], _∷_}
 use denote.Ref.{now}
-use Rattle.rdp.proofs.Determined.{answered-determined, load-determined, refusal-determined, sampling-determined, yes-determined}
+use Rattle.rdp.proofs.Determined.{answered-determined, load-determined, size-determined, refusal-determined, sampling-determined}
+use Rattle.rdp.proofs.Determined.{yes-determined}
+use Rattle.tulonkasa.proofs.files.tk_write_pam.Reads as tk-write-pam
+use Rattle.tulonkasa.proofs.files.tk_read_pam.Reads as tk-read-pam
 use Rattle.tulonkasa.proofs.keys.tk_key.Reads as tk-key
 use Rattle.tulonkasa.proofs.loads.tk_load_block.Reads as tk-load-block
 use Rattle.tulonkasa.proofs.loads.tk_load_tile.Reads as tk-load-tile
@@ -16,6 +19,14 @@ use Rattle.tulonkasa.proofs.pictures.tk_sampling_lookup.Reads as tk-sam
 use Rattle.tulonkasa.proofs.pictures.tk_sampling_lookup_observed.Reads as tk-sampling-lookup-observed
 use Rattle.tulonkasa.proofs.replay.tk_replay_record.Reads as tk-replay-record
 use Rattle.tulonkasa.proofs.sampling.tk_sampling.Reads as tk-sampling
+
+pub tk-write-pam-one : (w : _) (a : _) (r s : _) (e f : _) → tk-write-pam.Post w a r e → tk-write-pam.Post w a s f
+    → (r ≡ s) × (now (e .1 .1 .1 .0) ∷ [] ≡ now (f .1 .1 .1 .0) ∷ [])
+tk-write-pam-one w a r s e f p q = answered-determined _ r s _ _ p q
+
+pub tk-read-pam-one : (w : _) (a : _) (r s : _) (e f : _) → tk-read-pam.Post w a r e → tk-read-pam.Post w a s f
+    → (r ≡ s) × (now (e .1 .0) ∷ [] ≡ now (f .1 .0) ∷ [])
+tk-read-pam-one w a r s e f p q = size-determined _ r s _ _ p q
 
 pub tk-key-one : (w : _) (a : _) (r s : _) (e f : _) → tk-key.Post w a r e → tk-key.Post w a s f
     → (r ≡ s) × (now (e .1 .1 .1 .1 .1 .1 .1 .1 .1 .1 .1 .1 .1 .1 .0) ∷ [] ≡ now (f .1 .1 .1 .1 .1 .1 .1 .1 .1 .1 .1 .1 .1 .1 .0) ∷ [])

@@ -8,12 +8,7 @@ use rdp::answer::SizeAnswer;
 
 // A picture as a file; the count of its bytes is answered.
 #[no_mangle]
-pub extern "C" fn tk_write_pam(
-    width: u32,
-    height: u32,
-    picture: &[u8],
-    file: &mut [u8],
-) -> Answer
+pub extern "C" fn tk_write_pam(width: u32, height: u32, picture: &[u8], file: &mut [u8]) -> Answer
     ensures { λ r. ⌜ answered r (now (file .exit) ∷ []) ≡ pamWriteCall width height (now (picture .entry)) (now (file .entry)) ⌝ }
 {
     pam::write::write_pam(width, height, picture, file)

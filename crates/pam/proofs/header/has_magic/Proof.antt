@@ -1,5 +1,5 @@
 -- `pam::header::has_magic` compares the first three bytes. Assumes nothing.
-use mathlib.Core.Path.{_≡_, sym}
+use mathlib.Core.Path.{sym}
 use Prim.Native.Nat.{_≤_}
 use native.Mathlib.Omega.{arith}
 use lib.ListN.{length, take}
@@ -15,7 +15,7 @@ unfolding text
 returns c = let s = c .before .before .args .file .now in sym (other-length (take 3 s) (text "P7\n") (take-short 3 s 3 (c .if1 .taken)))
 
 slice-aggregate-is-same : tie.Need-slice-aggregate-is-same
-slice-aggregate-is-same c = 
+slice-aggregate-is-same c =
     let s = c .before .before .before .args .file .now in
     let long : 3 ≤ length s = omega (arith, c .before .if1 .left) in
     sym (length-take-le 3 s long)

@@ -1,5 +1,5 @@
 -- `pam::line::is_comment` looks at the first byte. Assumes nothing.
-use mathlib.Core.Path.{_≡_, sym}
+use mathlib.Core.Path.{sym}
 use Rattle.pam.proofs.Words.{comment-none, comment-first}
 use borrow.Author.Needs.{needs}
 use Rattle.pam.proofs.line.is_comment.Statement.{statement}

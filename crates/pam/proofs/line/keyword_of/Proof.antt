@@ -1,5 +1,4 @@
 -- `pam::line::keyword_of` compares with each keyword. Assumes nothing.
-use mathlib.Core.Path.{_≡_}
 use Rattle.rules.specs.Pam.{text}
 use Rattle.pam.proofs.Texts.{empty-length}
 use borrow.Author.Needs.{needs}

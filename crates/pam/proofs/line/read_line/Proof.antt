@@ -1,5 +1,5 @@
 -- `pam::line::read_line` asks for the comment before it passes the white space at the front. Assumes nothing.
-use mathlib.Core.Path.{_≡_, _∙_}
+use mathlib.Core.Path.{_∙_}
 use Rattle.pam.specs.Line.{wordsOf}
 use Rattle.pam.proofs.Texts.{rest-from}
 use borrow.Author.Needs.{needs}
@@ -25,7 +25,7 @@ read-words-requires : tie.Need-read-words-requires
 read-words-requires c κs = search needs
 
 returns : tie.Need-returns
-returns c = 
+returns c =
     let w = c .before .before .white-length in
     let k = c .before .before .before .is-comment in
     let s = c .before .before .before .before .before .args .line .now in

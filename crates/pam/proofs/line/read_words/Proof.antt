@@ -1,5 +1,5 @@
 -- `pam::line::read_words` takes the first word, and the value after it. Assumes nothing.
-use mathlib.Core.Path.{_≡_, ap, sym, _∙_}
+use mathlib.Core.Path.{ap, sym, _∙_}
 use lib.Seq.{length-take-le}
 use Rattle.rules.specs.Pam.{cut, trimmed}
 use Rattle.pam.specs.Line.{keywordOf, valueOf}
@@ -30,7 +30,7 @@ value-in-white-requires : tie.Need-value-in-white-requires
 value-in-white-requires c κs = search needs
 
 returns : tie.Need-returns
-returns c = 
+returns c =
     let w = c .before .before .before .before .word-length in
     let a = c .before .before .before .before .before .before .args in
     let s = a .line .now in

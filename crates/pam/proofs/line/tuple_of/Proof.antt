@@ -19,7 +19,7 @@ is-same-requires c κs = search needs
 
 returns-2 : tie.Need-returns-2
 unfolding text
-returns-2 c = 
+returns-2 c =
     let b = c .before .before .before in
     let v = b .before .before .args .value .now in
     let e : same v (text "RGB_ALPHA") ≡ true = sym (c .before .is-same .ensures) ∙ c .if2 .taken in
@@ -27,7 +27,7 @@ returns-2 c =
 
 returns-3 : tie.Need-returns-3
 unfolding text
-returns-3 c = 
+returns-3 c =
     let b = c .before .before .before in
     let v = b .before .before .args .value .now in
     let e : same v (text "RGB_ALPHA") ≡ false = sym (c .before .is-same .ensures) ∙ c .if2 .left in

@@ -1,5 +1,5 @@
 -- `pam::line::value_before_white` leaves the white space at the end. Assumes nothing.
-use mathlib.Core.Path.{_≡_, ap, sym, _∙_}
+use mathlib.Core.Path.{ap, sym, _∙_}
 use lib.Seq.{length-take-le}
 use Rattle.pam.specs.Line.{valueOf}
 use borrow.Author.Needs.{needs}

@@ -1,5 +1,5 @@
 -- `pam::line::value_in_white` passes the white space at the front. Assumes nothing.
-use mathlib.Core.Path.{_≡_, ap, _∙_}
+use mathlib.Core.Path.{ap, _∙_}
 use Rattle.rules.specs.Pam.{cut}
 use Rattle.pam.specs.Line.{valueOf}
 use Rattle.pam.proofs.Texts.{rest-from}
@@ -23,7 +23,7 @@ value-before-white-requires : tie.Need-value-before-white-requires
 value-before-white-requires c κs = search needs
 
 returns : tie.Need-returns
-returns c = 
+returns c =
     let s = c .before .before .before .before .args .text .now in
     let w = c .before .before .white-length in
     c .value-before-white .ensures ∙ ap (λ l. valueOf (cut l)) (rest-from s (w .result) ∙ w .ensures .1)

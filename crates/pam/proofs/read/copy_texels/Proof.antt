@@ -31,8 +31,9 @@ returns : tie.Need-returns
 returns c =
     let a = c .before .before .before .before .before .before .before .args in
     let n : a .start + a .count - a .start ≡ a .count = omega arith in
-    copied (take (a .start + a .count - a .start) (drop (a .start) (a .file .now))) (a .picture .now) _ (c .before .before .copy .ensures .1)
-    ∙ ap (λ k. over (take k (drop (a .start) (a .file .now))) (a .picture .now)) n
+    let from = drop (a .start) (a .file .now) in
+    copied (take (a .start + a .count - a .start) from) (a .picture .now) _ (c .before .before .copy .ensures .1)
+    ∙ ap (λ k. over (take k from) (a .picture .now)) n
 
 pub copy-texels-spec : {M : Type 1} → statement M
 copy-texels-spec =

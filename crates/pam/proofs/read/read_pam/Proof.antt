@@ -1,14 +1,12 @@
 -- `pam::read::read_pam` answers what its header states, and copies the texels. Assumes nothing.
-use mathlib.Core.Path.{_≡_, ap, sym, _∙_}
+use mathlib.Core.Path.{_≡_, sym, _∙_}
 use mathlib.Core.List.{[], _∷_}
 use native.Mathlib.Omega.{arith}
-use lib.ListN.{length, take, drop}
+use lib.ListN.{take, drop}
 use Rattle.rules.specs.Base.{over}
 use Rattle.rules.specs.Refusal.{first}
 use Rattle.rules.specs.Pam.{texelBytes, pamHead, pamReadTests, pamReadCall}
 use Rattle.rules.proofs.Refused.{refused-is, done-is}
-use Rattle.pam.specs.Gather.{headerBy, bad}
-use Rattle.pam.specs.Tests.{readTests}
 use Rattle.pam.proofs.Seen.{Seen, seen, stated-small}
 use Rattle.pam.proofs.Tested.{Taken, taken, tested}
 use borrow.Author.Needs.{needs}

@@ -1,5 +1,5 @@
 -- `pam::refused::read_refusal` tests from the last to the first. Assumes nothing.
-use mathlib.Core.Path.{_≡_, _∙_}
+use mathlib.Core.Path.{_∙_}
 use mathlib.Core.Bool.{cond}
 use Prim.Native.Nat.{_-_}
 use lib.Dec.{ltb}

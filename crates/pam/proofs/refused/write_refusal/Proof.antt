@@ -1,11 +1,10 @@
 -- `pam::refused::write_refusal` tests the sides first, since their product may not fit. Assumes nothing.
-use mathlib.Core.Path.{_≡_, sym, _∙_}
-use mathlib.Core.Bool.{true, false, cond, _||_}
-use Prim.Native.Nat.{_+_, _≤_}
+use mathlib.Core.Path.{sym, _∙_}
+use mathlib.Core.Bool.{cond, _||_}
+use Prim.Native.Nat.{_+_}
 use native.Mathlib.Omega.{arith}
 use native.Mathlib.Nat.{mul-le-mul}
 use lib.Dec.{eqb, ltb}
-use Rattle.rules.specs.Tile.{sideLimit, sidesOutside}
 use Rattle.rules.specs.Refusal.{first}
 use Rattle.pam.proofs.Sides.{Within, within}
 use borrow.Author.Needs.{needs}

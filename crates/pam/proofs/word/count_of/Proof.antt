@@ -1,5 +1,5 @@
 -- `pam::word::count_of` reads digits, and keeps its number at 65,536. Assumes nothing.
-use mathlib.Core.Path.{_≡_, refl, ap, sym, _∙_}
+use mathlib.Core.Path.{_≡_}
 use mathlib.Core.Logic.{⊎-elim}
 use Prim.Native.Nat.{_≤_, _-_}
 use native.Mathlib.Omega.{arith}
@@ -50,13 +50,17 @@ loop-less c = search needs
 loop-again : tie.Need-loop-again Inv-loop μ-loop
 loop-again c =
     let b = c .before .before .before .before in
-    let m = counted-more _ _ _ (b .loop-test .taken) (b .before .loop .inv .1 .1) (c .if3 .n) (omega arith) (omega arith) (⊎-elim (λ w. omega arith) (λ w. omega arith) (c .if3 .came)) in
+    let v = b .before .loop .inv .1 .1 in
+    let m =
+    counted-more _ _ _ (b .loop-test .taken) v (c .if3 .n) (omega arith) (omega arith)
+    (⊎-elim (λ w. omega arith) (λ w. omega arith) (c .if3 .came)) in
     (search needs, (⊎-elim (λ w. omega arith) (λ w. omega arith) (c .if3 .came), m))
 
 returns-3 : tie.Need-returns-3 Inv-loop μ-loop
 returns-3 c =
     let v = c .before .loop .inv .1 .1 in
-    let whole : take (c .before .loop .i) (c .before .before .args .s .now) ≡ c .before .before .args .s .now = take-all _ _ (c .loop-test .left) in
+    let s = c .before .before .args .s .now in
+    let whole : take (c .before .loop .i) s ≡ s = take-all _ _ (c .loop-test .left) in
     all-digits _ _ (rw whole at (v .digits)) (rw whole at (v .is))
 
 pub count-of-spec : {M : Type 1} → statement M

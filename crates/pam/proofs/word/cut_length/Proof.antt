@@ -1,5 +1,5 @@
 -- `pam::word::cut_length` goes back over white space. Assumes nothing.
-use mathlib.Core.Path.{_≡_, refl, ap, sym, _∙_}
+use mathlib.Core.Path.{_≡_, ap, sym, _∙_}
 use mathlib.Core.Bool.{true, false}
 use Prim.Native.Nat.{_≤_, _-_}
 use lib.ListN.{length, getD, take}

@@ -1,11 +1,11 @@
 -- `pam::write::put_file` writes the texels after the header. Assumes nothing.
-use mathlib.Core.Path.{_≡_, ap, sym, _∙_}
+use mathlib.Core.Path.{sym}
 use mathlib.Core.List.{[]}
-use Prim.Native.Nat.{_+_, _≤_}
+use Prim.Native.Nat.{_≤_}
 use native.Mathlib.Omega.{arith}
 use lib.ListN.{length, take}
 use lib.Seq.{length-take-le}
-use Rattle.decimal.proofs.Writes.{Wrote, wrote-none, wrote-more}
+use Rattle.decimal.proofs.Writes.{wrote-none, wrote-more}
 use borrow.Author.Needs.{needs}
 use Rattle.pam.proofs.write.put_file.Statement.{statement}
 use Rattle.pam.proofs.write.put_file.Tie as tie

@@ -1,14 +1,14 @@
 -- `pam::write::put_header` writes five parts one after the other. Assumes nothing.
-use mathlib.Core.Path.{_≡_, ap, sym, _∙_}
+use mathlib.Core.Path.{ap, _∙_}
 use mathlib.Core.List.{[]}
-use Prim.Native.Nat.{_+_, _≤_}
+use Prim.Native.Nat.{_≤_}
 use native.Mathlib.Omega.{arith}
 use lib.ListN.{length}
 use Rattle.rules.specs.Base.{over}
 use Rattle.rules.specs.Lister.{numberText}
 use Rattle.rules.specs.Pam.{text}
 use Rattle.decimal.proofs.Texts.{number-put}
-use Rattle.decimal.proofs.Writes.{Wrote, wrote-none, wrote-more}
+use Rattle.decimal.proofs.Writes.{wrote-none, wrote-more}
 use Rattle.pam.proofs.Files.{header-parts, header-short}
 use borrow.Author.Needs.{needs}
 use Rattle.pam.proofs.write.put_header.Statement.{statement}

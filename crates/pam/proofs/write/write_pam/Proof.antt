@@ -1,16 +1,15 @@
 -- `pam::write::write_pam` makes the header first, so that its length is known before anything is written. Assumes nothing.
 use mathlib.Core.Path.{_≡_, ap, sym, _∙_}
 use mathlib.Core.List.{[], _∷_, _++_}
-use Prim.Native.Nat.{_+_, _≤_}
+use Prim.Native.Nat.{_+_}
 use native.Mathlib.Omega.{arith}
 use lib.ListN.{length, take}
-use lib.Seq.{length-take-le}
 use Rattle.rules.specs.Base.{over}
 use Rattle.rules.specs.Refusal.{first}
-use Rattle.rules.specs.Pam.{pamHeader, pamFile, texelBytes, pamSize, pamWriteTests, pamWriteCall}
+use Rattle.rules.specs.Pam.{pamHeader, pamFile, pamWriteTests, pamWriteCall}
 use Rattle.rules.proofs.Refused.{refused-is, done-is}
 use Rattle.pam.specs.Tests.{writeTests}
-use Rattle.pam.proofs.Files.{Fits, fits, header-front, header-short, size-small}
+use Rattle.pam.proofs.Files.{Fits, fits, header-front, size-small}
 use borrow.Author.Needs.{needs}
 use Rattle.pam.proofs.write.write_pam.Statement.{statement}
 use Rattle.pam.proofs.write.write_pam.Tie as tie
@@ -31,7 +30,10 @@ fit c = fits _ _ _ _ (sym (tested (c .before)) ∙ c .if1 .left)
 -- the front of the array is the header
 front : (c : tie.After-put-header) → let a = c .before .before .before .before .args in
     take (c .put-header .result) (c .put-header .last .1 .1 .0) ≡ pamHeader (a .width) (a .height)
-front c = let a = c .before .before .before .before .args in header-front (a .width) (a .height) _ _ _ (c .put-header .ensures .0) (c .put-header .ensures .1 .1)
+front c =
+    let a = c .before .before .before .before .args in
+    let e = c .put-header .ensures in
+    header-front (a .width) (a .height) _ _ _ (e .0) (e .1 .1)
 
 slice-aggregate-put-header : tie.Need-slice-aggregate-put-header
 slice-aggregate-put-header c = search needs
@@ -73,7 +75,8 @@ cast-t19 c =
     let n = p .before .before .before in
     let h = n .before .before .before .before in
     let a = h .before .before .before .before .args in
-    record { fits = omega (arith, p .put-file .ensures .0, ap length (front h), n .texel-bytes .ensures, size-small (a .width) (a .height) (fit (n .before) .sides)) }
+    let small = size-small (a .width) (a .height) (fit (n .before) .sides) in
+    record { fits = omega (arith, p .put-file .ensures .0, ap length (front h), n .texel-bytes .ensures, small) }
 
 same-length : tie.Need-same-length
 same-length c = search needs
