@@ -1,6 +1,6 @@
 -- A file written part by part, and what is known where writing it is not refused.
 use mathlib.Core.Path.{_≡_, refl, sym}
-use mathlib.Core.List.{List, _++_, append-assoc}
+use mathlib.Core.List.{List, [], _∷_, _++_, append-assoc}
 use Prim.Native.Nat.{ℕ, _+_, _*_, _≤_}
 use native.Mathlib.Omega.{arith}
 use native.Mathlib.Nat.{mul-le-mul}
@@ -12,9 +12,9 @@ use Rattle.rules.specs.Base.{over}
 use Rattle.rules.specs.Tile.{sideLimit}
 use Rattle.rules.specs.Refusal.{first}
 use Rattle.rules.specs.Lister.{numberText}
-use Rattle.rules.specs.Pam.{text, ended, pamHeader, texelBytes, pamSize, pamWriteTests}
+use Rattle.rules.specs.Pam.{text, ended, pamHeader, texelBytes, pamSize, pamWriteTests, pamFile, pamWriteCall}
 use Rattle.rules.proofs.Ranges.{neither}
-use Rattle.rules.proofs.Refused.{Passed, numbered, passed}
+use Rattle.rules.proofs.Refused.{Passed, numbered, passed, done-is}
 use Rattle.decimal.proofs.Decimals.{decimal-short}
 use Rattle.pam.specs.Tests.{headerMost}
 use Rattle.pam.proofs.Sides.{Within, within}
@@ -63,3 +63,10 @@ header-front w h size old xs n e = rw (e, take-at (pamHeader w h) _ size (sym n)
 -- the count of a file's bytes
 pub size-small : (w h : ℕ) → Within w h → pamSize w h ≤ headerMost + 4 * (sideLimit * sideLimit)
 size-small w h s = omega (arith, header-short w h, mul-le-mul (s .width) (s .height))
+
+-- the call where nothing is refused: the count of the file's bytes, and the file
+pub file-written : (w h : ℕ) (picture file : List ℕ) {n : ℕ} {xs : List ℕ} → first (pamWriteTests w h picture file) ≡ 0 → n ≡ pamSize w h
+    → xs ≡ over (pamHeader w h ++ take (texelBytes w h) picture) file
+    → record { refusal = 0; numbers = n ∷ []; buffers = xs ∷ [] } ≡ pamWriteCall w h picture file
+unfolding pamWriteCall pamFile
+file-written w h picture file none n e = rw (n, e) (done-is (pamWriteTests w h picture file) _ _ _ none)

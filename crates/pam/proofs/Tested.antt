@@ -5,12 +5,13 @@ use mathlib.Core.List.{List, [], _∷_}
 use Prim.Native.Nat.{ℕ, _+_, _-_, _≤_}
 use native.Mathlib.Omega.{arith}
 use lib.Dec.{eqb, ltb}
-use lib.ListN.{length}
+use lib.ListN.{length, take, drop}
 use borrow.Author.Tests.{ltb-false}
+use Rattle.rules.specs.Base.{over}
 use Rattle.rules.specs.Tile.{sideLimit, sidesOutside}
 use Rattle.rules.specs.Refusal.{_if_, first}
-use Rattle.rules.specs.Pam.{Header as RuleHeader, texelBytes, otherTuples, pamReadTests}
-use Rattle.rules.proofs.Refused.{Passed, numbered, passed}
+use Rattle.rules.specs.Pam.{Header as RuleHeader, texelBytes, otherTuples, pamHead, pamReadTests, pamReadCall}
+use Rattle.rules.proofs.Refused.{Passed, numbered, passed, done-is}
 use Rattle.pam.specs.Gather.{otherBy}
 use Rattle.pam.specs.Tests.{readTests}
 use Rattle.pam.specs.declared.header.Header.{Header}
@@ -103,3 +104,11 @@ taken file picture x h k e =
       texels = rw (n, s .size) (ltb-false _ _ (p .1 .1 .1 .0));
       room = rw n (ltb-false _ _ (p .1 .1 .1 .1 .0));
     }
+
+-- the call where nothing is refused: the size, and the texels
+pub picture-read : (file picture : List ℕ) {w h : ℕ} {xs : List ℕ} → first (pamReadTests (pamHead file) file picture) ≡ 0
+    → w ≡ pamHead file .width → h ≡ pamHead file .height
+    → xs ≡ over (take (texelBytes (pamHead file .width) (pamHead file .height)) (drop (pamHead file .size) file)) picture
+    → record { refusal = 0; numbers = w ∷ h ∷ []; buffers = xs ∷ [] } ≡ pamReadCall file picture
+unfolding pamReadCall
+picture-read file picture none w h e = rw (w, h, e) (done-is (pamReadTests (pamHead file) file picture) _ _ _ none)

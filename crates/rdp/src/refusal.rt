@@ -5,7 +5,7 @@ ghost use mathlib.Core.Bool.{cond};
 // A lent bank or key is not 4,096 bytes, a written or reach map not 512, or a lane map not 32.
 pub const LENGTH: u32 = 1;
 
-// A tile field, or a side of a picture in a file, is outside its range.
+// A tile field, or a side of a picture that is written or read as a file, is outside its range.
 pub const TILE: u32 = 2;
 
 // Mode or lane is above 3.

@@ -9,7 +9,7 @@ use Rattle.rules.specs.Lister.{decimal}
 use Rattle.rules.specs.Worked.{Case, _gives_}
 use Rattle.rules.specs.Pam.{text, pamFile, pamWriteCall, pamReadCall}
 
--- refusal, numbers and what is left in the lent buffer, with a buffer of so many bytes
+-- refusal, numbers, and what is left in the lent buffer
 abbrev answer : Outcome → List ℕ
 answer o = o .refusal ∷ (o .numbers ++ concat (o .buffers))
 

@@ -1,6 +1,4 @@
 -- `pam::header::note_line` notes what each field gets of the line. Assumes nothing.
-use mathlib.Core.Bool.{_&&_, _||_}
-use lib.Dec.{eqb}
 use borrow.Author.Needs.{needs}
 use Rattle.pam.proofs.header.note_line.Statement.{statement}
 use Rattle.pam.proofs.header.note_line.Tie as tie
@@ -30,16 +28,8 @@ returns c =
     let d = m .before in
     let h = d .before in
     let w = h .before in
-    let a = w .before .before .before .args in
-    λ i. record {
-      width = w .number-after .ensures i;
-      height = h .number-after2 .ensures i;
-      depth = d .number-after3 .ensures i;
-      maxval = m .number-after4 .ensures i;
-      tuple = t .tuple-after .ensures i;
-      unknown = a .stated .unknown || c .before .before .before .before .is-unknown .ensures i;
-      untyped = a .stated .untyped || (a .line .keyword .tupltype && eqb (a .line .value .tuple) 0);
-    }
+    rw (w .number-after .ensures, h .number-after2 .ensures, d .number-after3 .ensures, m .number-after4 .ensures)
+    (rw (t .tuple-after .ensures, c .before .before .before .before .is-unknown .ensures))
 
 pub note-line-spec : {M : Type 1} → statement M
 note-line-spec =

@@ -49,16 +49,8 @@ returns c =
     let a3 = a4 .before .before in
     let a2 = a3 .before .before in
     let a1 = a2 .before .before in
-    let n = empty-length (a1 .before .before .before .args .word .now) in
-    λ i. record {
-      none = n i;
-      width = a1 .is-same .ensures i;
-      height = a2 .is-same2 .ensures i;
-      depth = a3 .is-same3 .ensures i;
-      maxval = a4 .is-same4 .ensures i;
-      tupltype = a5 .is-same5 .ensures i;
-      endhdr = c .is-same6 .ensures i;
-    }
+    rw (a1 .is-same .ensures, a2 .is-same2 .ensures, a3 .is-same3 .ensures, a4 .is-same4 .ensures, a5 .is-same5 .ensures)
+    (rw (c .is-same6 .ensures, empty-length (a1 .before .before .before .args .word .now)))
 
 pub keyword-of-spec : {M : Type 1} → statement M
 keyword-of-spec =

@@ -32,12 +32,11 @@ value-in-white-requires c κs = search needs
 returns : tie.Need-returns
 returns c =
     let w = c .before .before .before .before .word-length in
-    let a = c .before .before .before .before .before .before .args in
-    let s = a .line .now in
+    let s = c .before .before .before .before .before .before .args .line .now in
     let k = c .before .before .keyword-of .ensures ∙ ap keywordOf (w .ensures .1 .0) in
     let r = rest-from s (w .result) ∙ w .ensures .1 .1 in
     let v = c .value-in-white .ensures ∙ ap (λ l. valueOf (cut (trimmed l))) r in
-    λ i. record { comment = a .comment; keyword = k i; value = v i }
+    rw (k, v)
 
 pub read-words-spec : {M : Type 1} → statement M
 read-words-spec =

@@ -10,7 +10,7 @@ tuple-of-requires : tie.Need-tuple-of-requires
 tuple-of-requires c κs = search needs
 
 returns : tie.Need-returns
-returns c = λ i. record { count = c .before .count-of .ensures i; tuple = c .tuple-of .ensures i }
+returns c = rw (c .before .count-of .ensures, c .tuple-of .ensures)
 
 pub value-of-spec : {M : Type 1} → statement M
 value-of-spec = tie.close (tie.spec count-of-requires tuple-of-requires returns)

@@ -1,14 +1,13 @@
 -- `pam::read::read_pam` answers what its header states, and copies the texels. Assumes nothing.
-use mathlib.Core.Path.{_≡_, sym, _∙_}
-use mathlib.Core.List.{[], _∷_}
+use mathlib.Core.Path.{_≡_, ap, sym, _∙_}
 use native.Mathlib.Omega.{arith}
 use lib.ListN.{take, drop}
 use Rattle.rules.specs.Base.{over}
 use Rattle.rules.specs.Refusal.{first}
 use Rattle.rules.specs.Pam.{texelBytes, pamHead, pamReadTests, pamReadCall}
-use Rattle.rules.proofs.Refused.{refused-is, done-is}
+use Rattle.rules.proofs.Refused.{refused-is}
 use Rattle.pam.proofs.Seen.{Seen, seen, stated-small}
-use Rattle.pam.proofs.Tested.{Taken, taken, tested}
+use Rattle.pam.proofs.Tested.{Taken, taken, tested, picture-read}
 use borrow.Author.Needs.{needs}
 use Rattle.pam.proofs.read.read_pam.Statement.{statement}
 use Rattle.pam.proofs.read.read_pam.Tie as tie
@@ -60,17 +59,17 @@ same-length : tie.Need-same-length
 same-length c = search needs
 
 returns-2 : tie.Need-returns-2
-unfolding pamReadCall
 returns-2 c =
     let t = c .before .before .before .before in
     let r = t .before .before in
     let a = r .before .before .before .before .args in
     let f = took (t .before) in
+    let file = a .file .now in
     let e = t .texel-bytes .ensures ∙ (λ i. texelBytes (f .width i) (f .height i)) in
-    let left = c .before .before .copy-texels .ensures ∙ (λ i. over (take (e i) (drop (f .size i) (a .file .now))) (a .picture .now)) in
-    let none = sym (refusal r) ∙ t .before .if1 .left in
-    (λ i. record { refusal = 0; numbers = f .width i ∷ f .height i ∷ []; buffers = left i ∷ [] })
-    ∙ done-is (pamReadTests (pamHead (a .file .now)) (a .file .now) (a .picture .now)) _ _ _ none
+    let x = r .before .read-header .result in
+    let left = c .before .before .copy-texels .ensures ∙ ap (λ n. over (take n (drop (x .size) file)) (a .picture .now)) e in
+    picture-read file (a .picture .now) (sym (refusal r) ∙ t .before .if1 .left) (f .width) (f .height)
+    (left ∙ ap (λ n. over (take (texelBytes (pamHead file .width) (pamHead file .height)) (drop n file)) (a .picture .now)) (f .size))
 
 pub read-pam-spec : {M : Type 1} → statement M
 read-pam-spec =

@@ -1,6 +1,4 @@
 -- `pam::refused::is_broken` asks for each number. Assumes nothing.
-use mathlib.Core.Bool.{not, _||_}
-use lib.Dec.{eqb, ltb}
 use borrow.Author.Needs.{needs}
 use Rattle.pam.proofs.refused.is_broken.Statement.{statement}
 use Rattle.pam.proofs.refused.is_broken.Tie as tie
@@ -23,15 +21,7 @@ returns c =
     let d = m .before in
     let h = d .before in
     let w = h .before in
-    let x = w .before .before .before .before .args .header in
-    λ i. eqb (x .size) 0
-    || x .stated .unknown
-    || not (w .is-once .ensures i)
-    || not (h .is-once2 .ensures i)
-    || not (d .is-once3 .ensures i)
-    || not (m .is-once4 .ensures i)
-    || ltb 65535 (x .stated .maxval)
-    || x .stated .untyped
+    rw (w .is-once .ensures, h .is-once2 .ensures, d .is-once3 .ensures, m .is-once4 .ensures)
 
 pub is-broken-spec : {M : Type 1} → statement M
 is-broken-spec =

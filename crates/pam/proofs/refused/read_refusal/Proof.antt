@@ -1,8 +1,5 @@
 -- `pam::refused::read_refusal` tests from the last to the first. Assumes nothing.
-use mathlib.Core.Path.{_∙_}
-use mathlib.Core.Bool.{cond}
 use Prim.Native.Nat.{_-_}
-use lib.Dec.{ltb}
 use Rattle.rules.specs.Refusal.{first}
 use borrow.Author.Needs.{needs}
 use Rattle.pam.proofs.refused.read_refusal.Statement.{statement}
@@ -46,13 +43,8 @@ returns c =
     let t = s .before .before in
     let p = t .before .before in
     let n = p .before in
-    let a = n .before .before .args in
-    let e = n .texel-bytes .ensures in
-    let six = p .refuse .ensures ∙ (λ i. cond (ltb (a .picture) (e i)) 6 0) in
-    let fifteen = t .refuse2 .ensures ∙ (λ i. cond (ltb (a .file - a .header .size) (e i)) 15 (six i)) in
-    let two = s .refuse3 .ensures ∙ (λ i. cond (s .before .sides-outside .ensures i) 2 (fifteen i)) in
-    let fourteen = o .refuse4 .ensures ∙ (λ i. cond (o .before .has-other-tuples .ensures i) 14 (two i)) in
-    c .refuse5 .ensures ∙ (λ i. cond (c .before .is-broken .ensures i) 13 (fourteen i))
+    rw (c .refuse5 .ensures, c .before .is-broken .ensures, o .refuse4 .ensures, o .before .has-other-tuples .ensures)
+    (rw (s .refuse3 .ensures, s .before .sides-outside .ensures, t .refuse2 .ensures, p .refuse .ensures, n .texel-bytes .ensures))
 
 pub read-refusal-spec : {M : Type 1} → statement M
 read-refusal-spec =

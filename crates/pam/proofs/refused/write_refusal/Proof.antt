@@ -1,10 +1,7 @@
 -- `pam::refused::write_refusal` tests the sides first, since their product may not fit. Assumes nothing.
 use mathlib.Core.Path.{sym, _∙_}
-use mathlib.Core.Bool.{cond, _||_}
-use Prim.Native.Nat.{_+_}
 use native.Mathlib.Omega.{arith}
 use native.Mathlib.Nat.{mul-le-mul}
-use lib.Dec.{eqb, ltb}
 use Rattle.rules.specs.Refusal.{first}
 use Rattle.pam.proofs.Sides.{Within, within}
 use borrow.Author.Needs.{needs}
@@ -43,12 +40,8 @@ returns-2 c =
     let p = c .before .before in
     let n = p .before in
     let s = n .before in
-    let a = s .before .before .args in
-    let e = n .texel-bytes .ensures in
-    let file = p .refuse .ensures ∙ (λ i. cond (ltb (a .file) (a .header + e i)) 6 0) in
-    let picture = c .before .refuse2 .ensures ∙ (λ i. cond (ltb (a .picture) (e i)) 6 (file i)) in
-    rw (sym (s .before .sides-outside .ensures) ∙ s .if1 .left)
-    (c .refuse3 .ensures ∙ (λ i. cond (eqb (a .width) 0 || eqb (a .height) 0) 12 (picture i)))
+    rw (c .refuse3 .ensures, c .before .refuse2 .ensures, p .refuse .ensures, n .texel-bytes .ensures)
+    (rw (sym (s .before .sides-outside .ensures) ∙ s .if1 .left))
 
 pub write-refusal-spec : {M : Type 1} → statement M
 write-refusal-spec =

@@ -1,15 +1,15 @@
 -- `pam::write::write_pam` makes the header first, so that its length is known before anything is written. Assumes nothing.
 use mathlib.Core.Path.{_≡_, ap, sym, _∙_}
-use mathlib.Core.List.{[], _∷_, _++_}
+use mathlib.Core.List.{_++_}
 use Prim.Native.Nat.{_+_}
 use native.Mathlib.Omega.{arith}
 use lib.ListN.{length, take}
 use Rattle.rules.specs.Base.{over}
 use Rattle.rules.specs.Refusal.{first}
-use Rattle.rules.specs.Pam.{pamHeader, pamFile, pamWriteTests, pamWriteCall}
-use Rattle.rules.proofs.Refused.{refused-is, done-is}
+use Rattle.rules.specs.Pam.{pamHeader, pamWriteTests, pamWriteCall}
+use Rattle.rules.proofs.Refused.{refused-is}
 use Rattle.pam.specs.Tests.{writeTests}
-use Rattle.pam.proofs.Files.{Fits, fits, header-front, size-small}
+use Rattle.pam.proofs.Files.{Fits, fits, header-front, size-small, file-written}
 use borrow.Author.Needs.{needs}
 use Rattle.pam.proofs.write.write_pam.Statement.{statement}
 use Rattle.pam.proofs.write.write_pam.Tie as tie
@@ -82,7 +82,6 @@ same-length : tie.Need-same-length
 same-length c = search needs
 
 returns-2 : tie.Need-returns-2
-unfolding pamWriteCall pamFile
 returns-2 c =
     let p = c .before .before in
     let n = p .before .before .before in
@@ -91,9 +90,7 @@ returns-2 c =
     let file = a .file .now in
     let size = p .put-file .ensures .0 ∙ (λ i. length (front h i) + n .texel-bytes .ensures i) in
     let left = p .put-file .ensures .1 ∙ (λ i. over (front h i ++ take (n .texel-bytes .ensures i) (a .picture .now)) file) in
-    let none = sym (tested (n .before .before)) ∙ n .before .if1 .left in
-    (λ i. record { refusal = 0; numbers = size i ∷ []; buffers = left i ∷ [] })
-    ∙ done-is (pamWriteTests (a .width) (a .height) (a .picture .now) file) _ _ _ none
+    file-written (a .width) (a .height) (a .picture .now) file (sym (tested (n .before .before)) ∙ n .before .if1 .left) size left
 
 pub write-pam-spec : {M : Type 1} → statement M
 write-pam-spec =
