@@ -10,7 +10,7 @@ use borrow.Author.Tests.{ltb-true, lt-ltb, le-ltb, ne-eqb}
 use Rattle.rules.specs.Base.{all, empty}
 use Rattle.rules.specs.Tile.{sideLimit}
 use Rattle.rules.specs.Lister.{decimal}
-use Rattle.rules.specs.Pam.{white, trimmed, cut, digit, numberFrom, number, isCount}
+use Rattle.rules.specs.Pam.{white, behind, trimmed, cut, digit, numberFrom, number, isCount}
 use Rattle.rules.proofs.Ranges.{both}
 use Rattle.decimal.proofs.Decimals.{decimal-one, decimal-more}
 use Rattle.pam.proofs.Texts.{all-more, snoc-some}
@@ -77,9 +77,9 @@ digits-plain (b ∷ d) h =
     rw (ne-eqb b 10 (λ e. omega (arith, e))) (digits-plain d (p .1))
 
 pub digits-trimmed : (d : List ℕ) → all digit d ≡ true → trimmed d ≡ d
-unfolding all trimmed
+unfolding all behind
 digits-trimmed [] h = refl
-digits-trimmed (b ∷ d) h = rw (digit-white b (both (digit b) (all digit d) h .0), trimmed)
+digits-trimmed (b ∷ d) h = rw (behind, digit-white b (both (digit b) (all digit d) h .0))
 
 pub digits-cut : (d : List ℕ) → all digit d ≡ true → cut d ≡ d
 unfolding all cut

@@ -12,7 +12,7 @@ use Rattle.rules.specs.Base.{any, all, empty, same, over}
 use Rattle.rules.specs.Tile.{sideLimit}
 use Rattle.rules.specs.Refusal.{first}
 use Rattle.rules.specs.Lister.{decimal}
-use Rattle.rules.specs.Pam.{text, lines, ended, pamHeader, texelBytes, pamFile, pamWriteTests, trimmed, word, afterWord, cut, value, isEnd}
+use Rattle.rules.specs.Pam.{text, lines, ended, pamHeader, texelBytes, pamFile, pamWriteTests, front, behind, cut, value, isEnd}
 use Rattle.rules.specs.Pam.{unknownLine, fields, linesSize, values, digit, numberFrom, number, isCount, joined, Header, headerOf, pamHead}
 use Rattle.rules.specs.Pam.{pamReadTests, pamReadCall}
 use Rattle.rules.proofs.Refused.{done-is}
@@ -46,48 +46,48 @@ lines-plain d e p q = rw (p, q)
 
 module _ (d e : List ℕ) (more : List (List ℕ)) where
   fields-are : fields (writtenLines d e ++ more) ≡ fieldLines d e
-  unfolding fields text same trimmed word
+  unfolding fields text same front behind
   fields-are = refl
 
   ends : any isEnd (writtenLines d e ++ more) ≡ true
-  unfolding any text same trimmed word
+  unfolding any text same front behind
   ends = refl
 
   size-is : 3 + linesSize (writtenLines d e ++ more) ≡ 63 + length d + length e
-  unfolding linesSize text same trimmed word
+  unfolding linesSize text same front behind
   size-is = omega arith
 
 module _ (d e : List ℕ) where
   all-known : any unknownLine (fieldLines d e) ≡ false
-  unfolding any text same trimmed word
+  unfolding any text same front behind
   all-known = refl
 
   widths-are : values "WIDTH" (fieldLines d e) ≡ value (text "WIDTH " ++ d) ∷ []
-  unfolding values text same trimmed word
+  unfolding values text same front behind
   widths-are = refl
 
   heights-are : values "HEIGHT" (fieldLines d e) ≡ value (text "HEIGHT " ++ e) ∷ []
-  unfolding values text same trimmed word
+  unfolding values text same front behind
   heights-are = refl
 
   depths-are : values "DEPTH" (fieldLines d e) ≡ text "4" ∷ []
-  unfolding values text same trimmed word afterWord cut
+  unfolding values text same front behind cut
   depths-are = refl
 
   maxvals-are : values "MAXVAL" (fieldLines d e) ≡ text "255" ∷ []
-  unfolding values text same trimmed word afterWord cut
+  unfolding values text same front behind cut
   maxvals-are = refl
 
   types-are : values "TUPLTYPE" (fieldLines d e) ≡ text "RGB_ALPHA" ∷ []
-  unfolding values text same trimmed word afterWord cut
+  unfolding values text same front behind cut
   types-are = refl
 
 value-width : (d : List ℕ) → all digit d ≡ true → value (text "WIDTH " ++ d) ≡ d
-unfolding text trimmed afterWord
+unfolding text behind
 value-width d h = rw (digits-trimmed d h, digits-cut d h)
 
 value-height : (d : List ℕ) → all digit d ≡ true → value (text "HEIGHT " ++ d) ≡ d
-unfolding text trimmed afterWord
+unfolding text behind
 value-height d h = rw (digits-trimmed d h, digits-cut d h)
 
 abbrev readHeader : ℕ → ℕ → ℕ → Header

@@ -1,6 +1,6 @@
 -- White space and words, a byte at a time.
 use mathlib.Core.Path.{_≡_, refl, ap, sym, _∙_}
-use mathlib.Core.Bool.{true, false}
+use mathlib.Core.Bool.{Bool, true, false}
 use mathlib.Core.List.{List, [], _∷_, _++_}
 use Prim.Native.Nat.{ℕ, zero, suc, _+_, _-_, _<_, _≤_}
 use native.Mathlib.Omega.{arith}
@@ -8,47 +8,37 @@ use native.Mathlib.Numerals.{add-one}
 use lib.Dec.{eqb}
 use lib.ListN.{length, getD, take, drop, drop-of-length-le}
 use lib.Seq.{take-suc, drop-cons, append-snoc}
-use Rattle.rules.specs.Pam.{white, trimmed, word, afterWord, before, cut, comment}
+use Rattle.rules.specs.Pam.{white, front, behind, before, cut, comment}
 use Rattle.pam.proofs.Texts.{and-false, snoc-some}
 
-module _ (s : List ℕ) (i : ℕ) (h : i < length s) where
-  -- a byte that is white, or not, at the front of what is left
-  pub trim-more : white (getD s i 0) ≡ true → trimmed (drop i s) ≡ trimmed (drop (i + 1) s)
-  unfolding trimmed
-  trim-more e = rw (add-one, drop-cons s i 0 h, trimmed, e)
+-- The front of a text, by a test of its bytes, from place i on.
+module _ (f : ℕ → Bool) (s : List ℕ) (i : ℕ) where
+  -- a byte more, and one that ends it
+  module _ (h : i < length s) where
+    pub behind-more : f (getD s i 0) ≡ true → behind f (drop i s) ≡ behind f (drop (i + 1) s)
+    unfolding behind
+    behind-more e = rw (add-one, drop-cons s i 0 h, behind, e)
 
-  pub trim-stop : white (getD s i 0) ≡ false → trimmed (drop i s) ≡ drop i s
-  unfolding trimmed
-  trim-stop e = rw (drop-cons s i 0 h, trimmed, e)
+    pub behind-stop : f (getD s i 0) ≡ false → behind f (drop i s) ≡ drop i s
+    unfolding behind
+    behind-stop e = rw (drop-cons s i 0 h, behind, e)
 
-  pub after-more : white (getD s i 0) ≡ false → afterWord (drop i s) ≡ afterWord (drop (i + 1) s)
-  unfolding afterWord
-  after-more e = rw (add-one, drop-cons s i 0 h, afterWord, e)
+    pub front-more : f (getD s i 0) ≡ true → take i s ++ front f (drop i s) ≡ take (i + 1) s ++ front f (drop (i + 1) s)
+    unfolding front
+    front-more e = rw (add-one, drop-cons s i 0 h, front, e, take-suc s i 0 h, ← append-snoc)
 
-  pub after-stop : white (getD s i 0) ≡ true → afterWord (drop i s) ≡ drop i s
-  unfolding afterWord
-  after-stop e = rw (drop-cons s i 0 h, afterWord, e)
+    pub front-stop : f (getD s i 0) ≡ false → front f (drop i s) ≡ []
+    unfolding front
+    front-stop e = rw (drop-cons s i 0 h, front, e)
 
-  pub word-more : white (getD s i 0) ≡ false → take i s ++ word (drop i s) ≡ take (i + 1) s ++ word (drop (i + 1) s)
-  unfolding word
-  word-more e = rw (add-one, drop-cons s i 0 h, word, e, take-suc s i 0 h, ← append-snoc)
+  -- nothing is left
+  pub behind-end : length s ≤ i → behind f (drop i s) ≡ drop i s
+  unfolding behind
+  behind-end h = rw (drop-of-length-le s h)
 
-  pub word-stop : white (getD s i 0) ≡ true → word (drop i s) ≡ []
-  unfolding word
-  word-stop e = rw (drop-cons s i 0 h, word, e)
-
--- nothing is left
-pub trim-end : (s : List ℕ) (i : ℕ) → length s ≤ i → trimmed (drop i s) ≡ drop i s
-unfolding trimmed
-trim-end s i h = rw (drop-of-length-le s h)
-
-pub after-end : (s : List ℕ) (i : ℕ) → length s ≤ i → afterWord (drop i s) ≡ drop i s
-unfolding afterWord
-after-end s i h = rw (drop-of-length-le s h)
-
-pub word-end : (s : List ℕ) (i : ℕ) → length s ≤ i → word (drop i s) ≡ []
-unfolding word
-word-end s i h = rw (drop-of-length-le s h)
+  pub front-end : length s ≤ i → front f (drop i s) ≡ []
+  unfolding front
+  front-end h = rw (drop-of-length-le s h)
 
 -- a byte more at the end: white space is cut, another stays with all before it
 cut-white : (l : List ℕ) (b : ℕ) → white b ≡ true → cut (l ++ (b ∷ [])) ≡ cut l

@@ -3,10 +3,14 @@ use mathlib.Core.Bool.{Bool, cond}
 use mathlib.Core.List.{List}
 use Prim.Native.Nat.{ℕ, min}
 use Rattle.rules.specs.Base.{empty, same}
-use Rattle.rules.specs.Pam.{text, trimmed, word, afterWord, cut, comment, isCount, number}
+use Rattle.rules.specs.Pam.{text, white, solid, front, behind, trimmed, cut, comment, isCount, number}
 use Rattle.pam.specs.declared.line.Keyword.{Keyword}
 use Rattle.pam.specs.declared.line.Value.{Value}
 use Rattle.pam.specs.declared.line.Line.{Line}
+
+-- white space, or all other bytes
+abbrev pub kindOf : Bool → ℕ → Bool
+kindOf w b = cond w (white b) (solid b)
 
 abbrev pub keywordOf : List ℕ → Keyword
 keywordOf k =
@@ -36,7 +40,7 @@ valueOf v = record { count = countOf v; tuple = tupleOf v }
 
 -- a line without the white space at its front, and one as it stands
 abbrev pub wordsOf : Bool → List ℕ → Line
-wordsOf c l = record { comment = c; keyword = keywordOf (word l); value = valueOf (cut (trimmed (afterWord l))) }
+wordsOf c l = record { comment = c; keyword = keywordOf (front solid l); value = valueOf (cut (trimmed (behind solid l))) }
 
 abbrev pub lineOf : List ℕ → Line
 lineOf l = wordsOf (comment l) (trimmed l)

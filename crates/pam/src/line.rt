@@ -4,9 +4,8 @@ ghost use Rattle.rules.specs.Pam.{comment, trimmed, cut};
 ghost use Rattle.pam.specs.Line.{keywordOf, tupleOf, valueOf, wordsOf, lineOf};
 use crate::word::count_of;
 use crate::word::cut_length;
+use crate::word::front_length;
 use crate::word::is_same;
-use crate::word::white_length;
-use crate::word::word_length;
 
 // Which keyword a line has. `none`: the line has no token at all.
 pub(crate) struct Keyword {
@@ -85,7 +84,7 @@ fn value_before_white(text: &[u8]) -> Value
 fn value_in_white(text: &[u8]) -> Value
     ensures { λ r. ⌜ r ≡ valueOf (cut (trimmed (now (text .entry)))) ⌝ }
 {
-    let start = white_length(text);
+    let start = front_length(text, true);
     value_before_white(&text[start..])
 }
 
@@ -93,7 +92,7 @@ fn value_in_white(text: &[u8]) -> Value
 fn read_words(line: &[u8], comment: bool) -> Line
     ensures { λ r. ⌜ r ≡ wordsOf comment (now (line .entry)) ⌝ }
 {
-    let end = word_length(line);
+    let end = front_length(line, false);
     let keyword = keyword_of(&line[..end]);
     let value = value_in_white(&line[end..]);
     Line {
@@ -116,6 +115,6 @@ pub(crate) fn read_line(line: &[u8]) -> Line
     ensures { λ r. ⌜ r ≡ lineOf (now (line .entry)) ⌝ }
 {
     let comment = is_comment(line);
-    let start = white_length(line);
+    let start = front_length(line, true);
     read_words(&line[start..], comment)
 }

@@ -3,8 +3,8 @@ ghost use mathlib.Core.Path.{_≡_};
 ghost use Prim.Native.Nat.{_≤_};
 ghost use lib.ListN.{length, take, drop};
 ghost use Rattle.rules.specs.Base.{same};
-ghost use Rattle.rules.specs.Pam.{white, trimmed, word, afterWord, cut};
-ghost use Rattle.pam.specs.Line.{countOf};
+ghost use Rattle.rules.specs.Pam.{white, front, behind, cut};
+ghost use Rattle.pam.specs.Line.{kindOf, countOf};
 
 fn is_white(b: u8) -> bool
     ensures { λ r. ⌜ r ≡ white b ⌝ }
@@ -12,30 +12,21 @@ fn is_white(b: u8) -> bool
     (b == b' ') | ((8 < b) & (b < 14))
 }
 
-// How many bytes of white space a text begins with.
-pub(crate) fn white_length(s: &[u8]) -> usize
-    ensures { λ r. ⌜ r ≤ length (now (s .entry)) ⌝ }
-    ensures { λ r. ⌜ drop r (now (s .entry)) ≡ trimmed (now (s .entry)) ⌝ }
+fn is_of_kind(b: u8, white: bool) -> bool
+    ensures { λ r. ⌜ r ≡ kindOf white b ⌝ }
 {
-    let mut i = 0;
-    while i < s.len() {
-        if !is_white(s[i]) {
-            return i;
-        }
-        i += 1;
-    }
-    i
+    if white { is_white(b) } else { !is_white(b) }
 }
 
-// How many bytes stand before the first white space.
-pub(crate) fn word_length(s: &[u8]) -> usize
+// How many bytes of white space a text begins with, or how many others.
+pub(crate) fn front_length(s: &[u8], white: bool) -> usize
     ensures { λ r. ⌜ r ≤ length (now (s .entry)) ⌝ }
-    ensures { λ r. ⌜ take r (now (s .entry)) ≡ word (now (s .entry)) ⌝ }
-    ensures { λ r. ⌜ drop r (now (s .entry)) ≡ afterWord (now (s .entry)) ⌝ }
+    ensures { λ r. ⌜ take r (now (s .entry)) ≡ front (kindOf white) (now (s .entry)) ⌝ }
+    ensures { λ r. ⌜ drop r (now (s .entry)) ≡ behind (kindOf white) (now (s .entry)) ⌝ }
 {
     let mut i = 0;
     while i < s.len() {
-        if is_white(s[i]) {
+        if !is_of_kind(s[i], white) {
             return i;
         }
         i += 1;

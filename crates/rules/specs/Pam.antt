@@ -77,19 +77,21 @@ pamWriteCall w h picture file =
 abbrev pub white : ℕ → Bool
 white b = eqb b 32 || (ltb 8 b && ltb b 14)
 
+abbrev pub solid : ℕ → Bool
+solid b = not (white b)
+
+-- the longest front of which all bytes are of a kind, and what follows it
+unfoldable pub front : (ℕ → Bool) → List ℕ → List ℕ
+front f [] = []
+front f (b ∷ l) = elim (f b) [ true ↦ b ∷ front f l | false ↦ [] ]
+
+unfoldable pub behind : (ℕ → Bool) → List ℕ → List ℕ
+behind f [] = []
+behind f (b ∷ l) = elim (f b) [ true ↦ behind f l | false ↦ b ∷ l ]
+
 -- without the white space at its front
-unfoldable pub trimmed : List ℕ → List ℕ
-trimmed [] = []
-trimmed (b ∷ l) = elim (white b) [ true ↦ trimmed l | false ↦ b ∷ l ]
-
--- the front up to the first white space, and what follows
-unfoldable pub word : List ℕ → List ℕ
-word [] = []
-word (b ∷ l) = elim (white b) [ true ↦ [] | false ↦ b ∷ word l ]
-
-unfoldable pub afterWord : List ℕ → List ℕ
-afterWord [] = []
-afterWord (b ∷ l) = elim (white b) [ true ↦ b ∷ l | false ↦ afterWord l ]
+abbrev pub trimmed : List ℕ → List ℕ
+trimmed l = behind white l
 
 -- a byte before what is left: white space before nothing goes too
 abbrev pub before : ℕ → List ℕ → List ℕ
@@ -102,10 +104,10 @@ cut (b ∷ l) = before b (cut l)
 
 -- a line's first token, and the rest of the line without white space at either end
 abbrev pub keyword : List ℕ → List ℕ
-keyword l = word (trimmed l)
+keyword l = front solid (trimmed l)
 
 abbrev pub value : List ℕ → List ℕ
-value l = cut (trimmed (afterWord (trimmed l)))
+value l = cut (trimmed (behind solid (trimmed l)))
 
 -- a line that begins with # (35) is a comment
 abbrev pub comment : List ℕ → Bool

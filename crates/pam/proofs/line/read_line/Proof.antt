@@ -9,8 +9,8 @@ use Rattle.pam.proofs.line.read_line.Tie as tie
 is-comment-requires : tie.Need-is-comment-requires
 is-comment-requires c κs = search needs
 
-white-length-requires : tie.Need-white-length-requires
-white-length-requires c κs = search needs
+front-length-requires : tie.Need-front-length-requires
+front-length-requires c κs = search needs
 
 sub-read-words : tie.Need-sub-read-words
 sub-read-words c = search needs
@@ -26,10 +26,10 @@ read-words-requires c κs = search needs
 
 returns : tie.Need-returns
 returns c =
-    let w = c .before .before .white-length in
+    let w = c .before .before .front-length in
     let k = c .before .before .before .is-comment in
     let s = c .before .before .before .before .before .args .line .now in
-    let e = rest-from s (w .result) ∙ w .ensures .1 in
+    let e = rest-from s (w .result) ∙ w .ensures .1 .1 in
     c .read-words .ensures ∙ (λ i. wordsOf (k .ensures i) (e i))
 
 pub read-line-spec : {M : Type 1} → statement M
@@ -37,7 +37,7 @@ read-line-spec =
     tie.close
     (tie.spec
     is-comment-requires
-    white-length-requires
+    front-length-requires
     sub-read-words
     part-read-words-start
     part-read-words-end

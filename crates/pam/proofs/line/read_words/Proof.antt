@@ -8,11 +8,11 @@ use borrow.Author.Needs.{needs}
 use Rattle.pam.proofs.line.read_words.Statement.{statement}
 use Rattle.pam.proofs.line.read_words.Tie as tie
 
-word-length-requires : tie.Need-word-length-requires
-word-length-requires c κs = search needs
+front-length-requires : tie.Need-front-length-requires
+front-length-requires c κs = search needs
 
 slice-aggregate-keyword-of : tie.Need-slice-aggregate-keyword-of
-slice-aggregate-keyword-of c = sym (length-take-le _ _ (c .before .word-length .ensures .0))
+slice-aggregate-keyword-of c = sym (length-take-le _ _ (c .before .front-length .ensures .0))
 
 keyword-of-requires : tie.Need-keyword-of-requires
 keyword-of-requires c κs = search needs
@@ -31,7 +31,7 @@ value-in-white-requires c κs = search needs
 
 returns : tie.Need-returns
 returns c =
-    let w = c .before .before .before .before .word-length in
+    let w = c .before .before .before .before .front-length in
     let s = c .before .before .before .before .before .before .args .line .now in
     let k = c .before .before .keyword-of .ensures ∙ ap keywordOf (w .ensures .1 .0) in
     let r = rest-from s (w .result) ∙ w .ensures .1 .1 in
@@ -42,7 +42,7 @@ pub read-words-spec : {M : Type 1} → statement M
 read-words-spec =
     tie.close
     (tie.spec
-    word-length-requires
+    front-length-requires
     slice-aggregate-keyword-of
     keyword-of-requires
     sub-value-in-white

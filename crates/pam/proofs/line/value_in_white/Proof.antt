@@ -7,8 +7,8 @@ use borrow.Author.Needs.{needs}
 use Rattle.pam.proofs.line.value_in_white.Statement.{statement}
 use Rattle.pam.proofs.line.value_in_white.Tie as tie
 
-white-length-requires : tie.Need-white-length-requires
-white-length-requires c κs = search needs
+front-length-requires : tie.Need-front-length-requires
+front-length-requires c κs = search needs
 
 sub-value-before-white : tie.Need-sub-value-before-white
 sub-value-before-white c = search needs
@@ -25,14 +25,14 @@ value-before-white-requires c κs = search needs
 returns : tie.Need-returns
 returns c =
     let s = c .before .before .before .before .args .text .now in
-    let w = c .before .before .white-length in
-    c .value-before-white .ensures ∙ ap (λ l. valueOf (cut l)) (rest-from s (w .result) ∙ w .ensures .1)
+    let w = c .before .before .front-length in
+    c .value-before-white .ensures ∙ ap (λ l. valueOf (cut l)) (rest-from s (w .result) ∙ w .ensures .1 .1)
 
 pub value-in-white-spec : {M : Type 1} → statement M
 value-in-white-spec =
     tie.close
     (tie.spec
-    white-length-requires
+    front-length-requires
     sub-value-before-white
     part-value-before-white-start
     part-value-before-white-end
