@@ -223,7 +223,7 @@ tk_answer tk_sampling_lookup_observed(const uint8_t *bank, size_t bank_length, T
 tk_answer tk_write_pam(uint32_t width, uint32_t height, const uint8_t *picture, size_t picture_length, uint8_t *file,
                        size_t file_length);
 
-/* Reads such a file of any program's, so the header may differ from the one above. What is asked of it:
+/* Reads such a file, whichever program wrote it, so the header may differ from the one above. What is asked of it:
  *
  * - It begins with the bytes "P7" and a newline. Lines follow, of which each ends with a newline, and with nothing else.
  * - A line whose first byte is '#' is a comment. It may hold any bytes, and be of any length.

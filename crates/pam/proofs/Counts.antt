@@ -29,13 +29,16 @@ pub counted-none : (s : List ℕ) → Counted s 0 0
 unfolding all numberFrom
 counted-none s = record { digits = refl; is = refl }
 
+pub digit-is : (b : ℕ) → 48 ≤ b → b ≤ 57 → digit b ≡ true
+digit-is b low high =
+    let x : 47 < b = omega arith in
+    let y : b < 58 = omega arith in
+    rw (lt-ltb 47 b x, lt-ltb b 58 y)
+
 module _ (s : List ℕ) (i n : ℕ) (h : i < length s) (c : Counted s i n) where
   pub counted-more : (m : ℕ) → 48 ≤ getD s i 0 → getD s i 0 ≤ 57 → m ≡ min (10 * n + (getD s i 0 - 48)) most → Counted s (i + 1) m
   counted-more m low high e =
-      let b : ℕ = getD s i 0 in
-      let x : 47 < getD s i 0 = omega arith in
-      let y : getD s i 0 < 58 = omega arith in
-      let d : digit (getD s i 0) ≡ true = rw (lt-ltb 47 (getD s i 0) x, lt-ltb (getD s i 0) 58 y) in
+      let d = digit-is (getD s i 0) low high in
       rw (add-one)
       (record {
         digits = rw (take-suc s i 0 h) (all-more digit (take i s) (getD s i 0) (c .digits) d);

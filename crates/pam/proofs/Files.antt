@@ -11,7 +11,7 @@ use borrow.Author.Tests.{eqb-false, ltb-false}
 use Rattle.rules.specs.Base.{over}
 use Rattle.rules.specs.Tile.{sideLimit}
 use Rattle.rules.specs.Refusal.{first}
-use Rattle.rules.specs.Lister.{numberText}
+use Rattle.rules.specs.Lister.{decimal, numberText}
 use Rattle.rules.specs.Pam.{text, ended, pamHeader, texelBytes, pamSize, pamWriteTests, pamFile, pamWriteCall}
 use Rattle.rules.proofs.Ranges.{neither}
 use Rattle.rules.proofs.Refused.{Passed, numbered, passed, done-is}
@@ -20,7 +20,7 @@ use Rattle.pam.specs.Tests.{headerMost}
 use Rattle.pam.proofs.Sides.{Within, within}
 
 -- the header's parts, as they are written
-abbrev pub headerParts : ℕ → ℕ → List ℕ
+abbrev headerParts : ℕ → ℕ → List ℕ
 headerParts w h =
     (((text "P7\nWIDTH " ++ numberText w 10) ++ text "HEIGHT ") ++ numberText h 10)
     ++ text "DEPTH 4\nMAXVAL 255\nTUPLTYPE RGB_ALPHA\nENDHDR\n"
@@ -29,9 +29,12 @@ pub header-parts : (w h : ℕ) → headerParts w h ≡ pamHeader w h
 unfolding text ended pamHeader
 header-parts w h = simp append-assoc
 
+pub length-header : (w h : ℕ) → length (pamHeader w h) ≡ 63 + length (decimal w) + length (decimal h)
+unfolding pamHeader ended text
+length-header w h = simp length-append (omega arith)
+
 pub header-short : (w h : ℕ) → length (pamHeader w h) ≤ headerMost
-unfolding text ended pamHeader
-header-short w h = simp length-append (omega (arith, decimal-short w, decimal-short h))
+header-short w h = omega (arith, length-header w h, decimal-short w, decimal-short h)
 
 -- nothing is refused
 pub record Fits (w h : ℕ) (picture file : List ℕ) : Type 0 where

@@ -19,7 +19,7 @@ abbrev pub plain : ℕ → Bool
 plain b = not (eqb b 10)
 
 -- what stands before a newline is a line
-pub lines-first : (d s : List ℕ) → all plain d ≡ true → lines (d ++ (10 ∷ s)) ≡ d ∷ lines s
+lines-first : (d s : List ℕ) → all plain d ≡ true → lines (d ++ (10 ∷ s)) ≡ d ∷ lines s
 unfolding all lines
 lines-first [] s h = refl
 lines-first (b ∷ d) s h =
@@ -27,7 +27,7 @@ lines-first (b ∷ d) s h =
     rw (lines, not-true (eqb b 10) (p .0)) (ap (onto b) (lines-first d s (p .1)))
 
 -- what no newline follows is none
-pub lines-none : (d : List ℕ) → all plain d ≡ true → lines d ≡ []
+lines-none : (d : List ℕ) → all plain d ≡ true → lines d ≡ []
 unfolding all lines
 lines-none [] h = refl
 lines-none (b ∷ d) h =

@@ -14,7 +14,7 @@ use Rattle.rules.specs.Pam.{white, behind, trimmed, cut, digit, numberFrom, num
 use Rattle.rules.proofs.Ranges.{both}
 use Rattle.decimal.proofs.Decimals.{decimal-one, decimal-more}
 use Rattle.pam.proofs.Texts.{all-more, snoc-some}
-use Rattle.pam.proofs.Counts.{number-more}
+use Rattle.pam.proofs.Counts.{number-more, digit-is}
 use Rattle.pam.proofs.Lines.{plain}
 
 -- The decimal digits of a number: digits, one at least, and that number.
@@ -23,19 +23,15 @@ pub record Numeral (n : ℕ) (l : List ℕ) : Type 0 where
   pub some : empty l ≡ false
   pub value : number l ≡ n
 
-digit-is : (d : ℕ) → d < 10 → digit (d + 48) ≡ true
-digit-is d h =
-    let a : 47 < d + 48 = omega arith in
-    let b : d + 48 < 58 = omega arith in
-    rw (lt-ltb 47 (d + 48) a, lt-ltb (d + 48) 58 b)
-
 numeral-fuel : (fuel n : ℕ) → n < fuel → n < 2 ^ 32 → Numeral n (decimal n)
 unfolding all numberFrom
 numeral-fuel zero n h l = absurd (omega arith)
 numeral-fuel (suc fuel) n h l = go (decLt n 10) (λ g. numeral-fuel fuel (n / 10) g (omega arith))
   where
     go : Dec (n < 10) → (n / 10 < fuel → Numeral (n / 10) (decimal (n / 10))) → Numeral n (decimal n)
-    go (yes s) ih = rw (decimal-one n s) (record { digits = rw (digit-is n s); some = refl; value = omega arith })
+    go (yes s) ih =
+        let d = digit-is (n + 48) (omega arith) (omega (arith, s)) in
+        rw (decimal-one n s) (record { digits = rw d; some = refl; value = omega arith })
     go (no s) ih =
         let m : 10 ≤ n = omega (arith, s) in
         let less : n / 10 < fuel = omega arith in
@@ -43,7 +39,7 @@ numeral-fuel (suc fuel) n h l = go (decLt n 10) (λ g. numeral-fuel fuel (n / 10
         let d : n % 10 < 10 = omega arith in
         rw (decimal-more n m l)
         (record {
-          digits = all-more digit (decimal (n / 10)) (n % 10 + 48) (k .digits) (digit-is (n % 10) d);
+          digits = all-more digit (decimal (n / 10)) (n % 10 + 48) (k .digits) (digit-is (n % 10 + 48) (omega arith) (omega (arith, d)));
           some = snoc-some (decimal (n / 10)) (n % 10 + 48);
           value = number-more 0 (decimal (n / 10)) (n % 10 + 48) ∙ rw (k .value) (omega arith);
         })
@@ -51,8 +47,8 @@ numeral-fuel (suc fuel) n h l = go (decLt n 10) (λ g. numeral-fuel fuel (n / 10
 pub numeral : (n : ℕ) → n ≤ sideLimit → Numeral n (decimal n)
 numeral n l = numeral-fuel (suc n) n (omega arith) (omega arith)
 
-pub count-is : (n : ℕ) (d : List ℕ) → Numeral n d → 1 ≤ n → isCount d ≡ true
-count-is n d k h =
+pub numeral-counts : (n : ℕ) (d : List ℕ) → Numeral n d → 1 ≤ n → isCount d ≡ true
+numeral-counts n d k h =
     let z : number d ≡ 0 → ⊥ = λ z. omega (arith, k .value, z) in
     rw (k .some, k .digits, ne-eqb (number d) 0 z)
 

@@ -17,20 +17,10 @@ use Rattle.rules.specs.Pam.{unknownLine, fields, linesSize, values, digit, numb
 use Rattle.rules.specs.Pam.{pamReadTests, pamReadCall}
 use Rattle.rules.proofs.Refused.{done-is}
 use Rattle.pam.proofs.Lines.{plain, lines-ended}
-use Rattle.pam.proofs.Numerals.{Numeral, numeral, count-is, digits-plain, digits-trimmed, digits-cut}
-use Rattle.pam.proofs.Files.{fits}
+use Rattle.pam.proofs.Numerals.{Numeral, numeral, numeral-counts, digits-plain, digits-trimmed, digits-cut}
+use Rattle.pam.proofs.Files.{length-header, fits}
 
 -- The lines that are written, with these digits for the sizes.
-abbrev writtenLines : List ℕ → List ℕ → List (List ℕ)
-writtenLines d e =
-    (text "WIDTH " ++ d)
-    ∷ (text "HEIGHT " ++ e)
-    ∷ text "DEPTH 4"
-    ∷ text "MAXVAL 255"
-    ∷ text "TUPLTYPE RGB_ALPHA"
-    ∷ text "ENDHDR"
-    ∷ []
-
 abbrev fieldLines : List ℕ → List ℕ → List (List ℕ)
 fieldLines d e =
     (text "WIDTH " ++ d)
@@ -39,6 +29,9 @@ fieldLines d e =
     ∷ text "MAXVAL 255"
     ∷ text "TUPLTYPE RGB_ALPHA"
     ∷ []
+
+abbrev writtenLines : List ℕ → List ℕ → List (List ℕ)
+writtenLines d e = fieldLines d e ++ (text "ENDHDR" ∷ [])
 
 lines-plain : (d e : List ℕ) → all plain d ≡ true → all plain e ≡ true → all (all plain) (writtenLines d e) ≡ true
 unfolding all text
@@ -117,11 +110,7 @@ unfolding headerOf
 header-says w h d e more nw nh lw lh =
     rw (fields-are d e more, ends d e more, all-known d e, size-is d e more, widths-are d e, heights-are d e)
     (rw (depths-are d e, maxvals-are d e, types-are d e, value-width d (nw .digits), value-height e (nh .digits))
-    (rw (count-is w d nw lw, count-is h e nh lh, nw .value, nh .value) (literals w h (63 + length d + length e))))
-
-length-header : (w h : ℕ) → length (pamHeader w h) ≡ 63 + length (decimal w) + length (decimal h)
-unfolding pamHeader ended text
-length-header w h = simp length-append (omega arith)
+    (rw (numeral-counts w d nw lw, numeral-counts h e nh lh, nw .value, nh .value) (literals w h (63 + length d + length e))))
 
 -- the file's first three bytes, and the rest of its lines
 front-is : (w h : ℕ) (rest : List ℕ) → pamHeader w h ++ rest ≡ text "P7\n" ++ (ended (writtenLines (decimal w) (decimal h)) ++ rest)
@@ -137,7 +126,7 @@ unfolding text
 after-magic s = refl
 
 -- The header that was written, read with anything after it.
-pub head-is : (w h : ℕ) (rest : List ℕ) → 1 ≤ w → 1 ≤ h → w ≤ sideLimit → h ≤ sideLimit
+head-is : (w h : ℕ) (rest : List ℕ) → 1 ≤ w → 1 ≤ h → w ≤ sideLimit → h ≤ sideLimit
     → pamHead (pamHeader w h ++ rest) ≡ readHeader w h (length (pamHeader w h))
 unfolding pamHead
 head-is w h rest lw lh mw mh =

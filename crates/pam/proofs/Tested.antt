@@ -20,24 +20,24 @@ use Rattle.pam.proofs.Seen.{States, Seen}
 use Rattle.pam.proofs.Sides.{Within, within}
 
 module _ (x : Header) (h : RuleHeader) where
-  pub other-is : States x h → otherBy (x .stated) ≡ otherTuples h
+  other-is : States x h → otherBy (x .stated) ≡ otherTuples h
   other-is s =
       let d : eqb (x .stated .depth) 4 ≡ eqb (h .depth) 4 = ap (λ n. eqb n 4) (s .depth) ∙ same-capped (h .depth) 4 (omega arith) in
       let m : eqb (x .stated .maxval) 255 ≡ eqb (h .maxval) 255 =
       ap (λ n. eqb n 255) (s .maxval) ∙ same-capped (h .maxval) 255 (omega arith) in
       λ i. not (d i && m i && s .tuple i)
 
-  pub sides-are : States x h → sidesOutside (x .stated .width) (x .stated .height) ≡ sidesOutside (h .width) (h .height)
+  sides-are : States x h → sidesOutside (x .stated .width) (x .stated .height) ≡ sidesOutside (h .width) (h .height)
   sides-are s =
       let w = ap (ltb sideLimit) (s .width) ∙ above-capped sideLimit (h .width) (omega arith) in
       let e = ap (ltb sideLimit) (s .height) ∙ above-capped sideLimit (h .height) (omega arith) in
       λ i. w i || e i
 
   -- sides within the limit are those that the header states
-  pub width-is : States x h → Within (h .width) (h .height) → x .stated .width ≡ h .width
+  width-is : States x h → Within (h .width) (h .height) → x .stated .width ≡ h .width
   width-is s w = s .width ∙ omega (arith, w .width)
 
-  pub height-is : States x h → Within (h .width) (h .height) → x .stated .height ≡ h .height
+  height-is : States x h → Within (h .width) (h .height) → x .stated .height ≡ h .height
   height-is s w = s .height ∙ omega (arith, w .height)
 
 module _ (file picture : List ℕ) (x : Header) (h : RuleHeader) (k : Seen x h) (l : x .size ≤ length file) where

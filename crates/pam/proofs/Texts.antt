@@ -21,15 +21,6 @@ and-false false = refl
 pub rest-from : (s : List ℕ) (n : ℕ) → take (length s - n) (drop n s) ≡ drop n s
 rest-from s n = take-all (length s - n) (drop n s) (le-of-eq (length-drop n s))
 
--- a text without bytes
-pub empty-none : (s : List ℕ) → length s ≡ 0 → empty s ≡ true
-empty-none [] h = refl
-empty-none (b ∷ s) h = absurd (omega arith)
-
-pub empty-some : (s : List ℕ) → (length s ≡ 0 → ⊥) → empty s ≡ false
-empty-some [] h = absurd (h refl)
-empty-some (b ∷ s) h = refl
-
 pub snoc-some : (l : List ℕ) (b : ℕ) → empty (l ++ (b ∷ [])) ≡ false
 snoc-some [] b = refl
 snoc-some (a ∷ l) b = refl

@@ -5,7 +5,7 @@ use Prim.Native.Nat.{ℕ, _+_}
 use lib.Dec.{eqb, ltb}
 use lib.ListN.{length, take, drop}
 use Rattle.rules.specs.Base.{same}
-use Rattle.rules.specs.Pam.{text, lines, says, value, isEnd}
+use Rattle.rules.specs.Pam.{text, lines, isEnd}
 use Rattle.pam.specs.Line.{most, lineOf}
 use Rattle.pam.specs.declared.line.Line.{Line}
 use Rattle.pam.specs.declared.header.Stated.{Stated}

@@ -17,7 +17,8 @@ use crate::word::MOST;
 use crate::word::is_same;
 
 // What the lines read so far state. A number is 0 while no line has stated it, and BAD where two have, or one has badly; MOST stands
-// for all above it. No field goes by another.
+// for all above it. `tuple`: none, RGB_ALPHA or another. `unknown`: a line had another keyword. `untyped`: a TUPLTYPE had no value. No
+// field goes by another.
 pub(crate) struct Stated {
     pub(crate) width: u32,
     pub(crate) height: u32,
@@ -64,7 +65,7 @@ fn tuple_after(old: u32, is_said: bool, tuple: u32) -> u32
     }
 }
 
-// Whether a line says something, and begins with no keyword.
+// Whether a line says something, and has none of the keywords that may stand before ENDHDR.
 fn is_unknown(line: Line) -> bool
     ensures { λ r. ⌜ r ≡ unknownBy line ⌝ }
 {

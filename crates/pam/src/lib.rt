@@ -1,4 +1,5 @@
-// Pictures as files in the Netpbm PAM format: one spelling is written, and all that the format's description allows are read.
+// Pictures as files in the Netpbm PAM format. One spelling of a header is written; any that the format's description allows is read, of
+// files with the same kind of texels.
 mod header;
 mod line;
 pub mod read;

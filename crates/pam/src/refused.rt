@@ -1,10 +1,11 @@
 // The refusals of writing and of reading.
 ghost use mathlib.Core.Path.{_≡_};
 ghost use Prim.Native.Nat.{_≤_};
+ghost use lib.ListN.{length};
 ghost use Rattle.rules.specs.Refusal.{first};
-ghost use Rattle.rules.specs.Pam.{texelBytes};
+ghost use Rattle.rules.specs.Pam.{pamHeader, texelBytes, pamWriteTests};
 ghost use Rattle.pam.specs.Gather.{bad, statedOnce, brokenBy, otherBy};
-ghost use Rattle.pam.specs.Tests.{headerMost, writeTests, readTests};
+ghost use Rattle.pam.specs.Tests.{readTests};
 use crate::header::BAD;
 use crate::header::Header;
 use crate::header::Stated;
@@ -22,23 +23,23 @@ pub(crate) fn texel_bytes(width: u32, height: u32) -> usize
     4 * (width as usize * height as usize)
 }
 
-// Of a picture's size, its bytes, the bytes of its header, and those of the file's buffer: 2, 12, 6.
+// Of a picture's size, the picture, the bytes of its header, and the file's buffer: 2, 12, 6.
 pub(crate) fn write_refusal(
     width: u32,
     height: u32,
-    picture: usize,
+    picture: &[u8],
     header: usize,
-    file: usize,
+    file: &[u8],
 ) -> u32
-    requires { ⌜ header ≤ headerMost ⌝ }
-    ensures { λ r. ⌜ r ≡ first (writeTests width height picture header file) ⌝ }
+    requires { ⌜ header ≡ length (pamHeader width height) ⌝ }
+    ensures { λ r. ⌜ r ≡ first (pamWriteTests width height (now (picture .entry)) (now (file .entry))) ⌝ }
 {
     if sides_outside(width, height) {
         return refusal::TILE;
     }
     let texels = texel_bytes(width, height);
-    let no = refuse(refusal::BUFFER, file < header + texels, 0);
-    let no = refuse(refusal::BUFFER, picture < texels, no);
+    let no = refuse(refusal::BUFFER, file.len() < header + texels, 0);
+    let no = refuse(refusal::BUFFER, picture.len() < texels, no);
     refuse(refusal::ZERO_SIDE, (width == 0) | (height == 0), no)
 }
 

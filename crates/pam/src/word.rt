@@ -12,6 +12,7 @@ fn is_white(b: u8) -> bool
     (b == b' ') | ((8 < b) & (b < 14))
 }
 
+// Whether a byte is white space, or, where that is not asked for, anything else.
 fn is_of_kind(b: u8, white: bool) -> bool
     ensures { λ r. ⌜ r ≡ kindOf white b ⌝ }
 {
@@ -66,7 +67,8 @@ pub(crate) fn is_same(s: &[u8], t: &[u8]) -> bool
     true
 }
 
-// The largest number that is kept as it is; it stands for all above it too.
+// The largest number that is kept as it is; it stands for all above it too. It is above all that a number is held against: 65,535, the
+// most of a maximum, and the limit of a side.
 pub(crate) const MOST: u32 = 65536;
 
 // The number that digits state, at most MOST; 0 where a text states none, or 0.

@@ -13,7 +13,7 @@ use decimal::number::put_number;
 use rdp::answer::Answer;
 
 // The bytes of the longest header: 63, and two numbers of ten digits.
-const HEADER_MOST: usize = 83;
+const HEADER_MOST: usize = 63 + 2 * 10;
 
 // A part of a text from `at` on. The new end is answered.
 fn put_part(part: &[u8], out: &mut [u8], at: usize) -> usize
@@ -60,7 +60,7 @@ pub fn write_pam(width: u32, height: u32, picture: &[u8], file: &mut [u8]) -> An
 {
     let mut header = [0u8; HEADER_MOST];
     let size = put_header(width, height, &mut header);
-    let refusal = write_refusal(width, height, picture.len(), size, file.len());
+    let refusal = write_refusal(width, height, picture, size, file);
     if refusal != 0 {
         return Answer { refusal, count: 0 };
     }

@@ -1,4 +1,4 @@
--- Document 01 as definitions, each after those that it uses. Every public contract cites these; no other crate defines meaning.
+-- Documents 01 and 02 as definitions, each after those that it uses. Every public contract cites these; no other crate defines meaning.
 pub mod Base
 pub mod Tile
 pub mod Texdec

@@ -10,9 +10,10 @@ use lib.ListN.{length, take, drop}
 use Rattle.rules.specs.Base.{any, all, empty, same, over}
 use Rattle.rules.specs.Tile.{sidesOutside}
 use Rattle.rules.specs.Refusal.{Test, _if_, Outcome, call}
+use Rattle.rules.specs.Calls.{shortPicture}
 use Rattle.rules.specs.Lister.{decimal}
 
--- the bytes of an ASCII text
+-- the bytes of a text: the codes of its characters, which are all below 256 here
 unfoldable pub text : String → List ℕ
 text ε = []
 text (c ▹ s) = code c ∷ text s
@@ -64,7 +65,7 @@ abbrev pub pamWriteTests : ℕ → ℕ → List ℕ → List ℕ → List Test
 pamWriteTests w h picture file =
     (2 if sidesOutside w h)
     ∷ (12 if (eqb w 0 || eqb h 0))
-    ∷ (6 if ltb (length picture) (texelBytes w h))
+    ∷ shortPicture (w * h) picture
     ∷ (6 if ltb (length file) (pamSize w h))
     ∷ []
 
@@ -121,7 +122,7 @@ says k l = same (keyword l) (text k)
 abbrev pub isEnd : List ℕ → Bool
 isEnd l = says "ENDHDR" l
 
--- A comment says nothing, and neither does a line without a token. Every other line has to begin with a keyword.
+-- A comment says nothing, and neither does a line without a token. Every other line before ENDHDR has to begin with one of these keywords.
 abbrev pub unknownLine : List ℕ → Bool
 unknownLine l =
     not
@@ -232,7 +233,7 @@ pamReadTests h file picture =
     ∷ (14 if otherTuples h)
     ∷ (2 if sidesOutside (h .width) (h .height))
     ∷ (15 if ltb (length file) (h .size + texelBytes (h .width) (h .height)))
-    ∷ (6 if ltb (length picture) (texelBytes (h .width) (h .height)))
+    ∷ shortPicture (h .width * h .height) picture
     ∷ []
 
 -- the texels are the bytes after the header; "Bytes after the texels are not read."

@@ -1,4 +1,4 @@
--- PAM files worked: what reading each gives. `Rattle.rules.proofs.PamWorked` proves every row.
+-- PAM files worked: what reading and writing give. `Rattle.rules.proofs.PamWorked` proves every row.
 use mathlib.Core.List.{List, [], _∷_, _++_}
 use Prim.Native.Nat.{ℕ, _+_, _*_}
 use lib.ListN.{replicate, take}
@@ -24,7 +24,7 @@ refusedOf room n file = answer (pamReadCall file (replicate room 9)) gives n ∷
 abbrev refused : ℕ → List ℕ → Case
 refused n file = refusedOf 100 n file
 
--- two texels, and what stands before them in the writer's spelling, up to the end, from the tuple type on, and so back to the height
+-- two texels; then the end of a good file, with its texels: from ENDHDR on, from TUPLTYPE on, from DEPTH on, from HEIGHT on
 abbrev texels : List ℕ
 texels = 1 ∷ 2 ∷ 3 ∷ 4 ∷ 5 ∷ 6 ∷ 7 ∷ 8 ∷ []
 
@@ -49,6 +49,10 @@ numbers = front ++ text "DEPTH 4\nMAXVAL 255\n"
 
 abbrev header : List ℕ
 header = numbers ++ text "TUPLTYPE RGB_ALPHA\nENDHDR\n"
+
+-- a file's front with a width above the limit
+abbrev above : List ℕ
+above = text "P7\nWIDTH " ++ decimal (sideLimit + 1)
 
 -- a file of height 1 with this width
 abbrev wide : ℕ → List ℕ → List ℕ
@@ -194,7 +198,7 @@ readTable =
     -- an unknown line beside depth 3: 13 before 14
     ∷ (refused 13 (front ++ (text "DEPTH 3\nMAXVAL 255\nTUPLTYPE RGB\nAUTHOR me\n" ++ close)))
     -- a zero height beside a width above the limit: 13 before 2
-    ∷ (refused 13 (text "P7\nWIDTH 5000\nHEIGHT 0\nDEPTH 4\nMAXVAL 255\nTUPLTYPE RGB_ALPHA\nENDHDR\n"))
+    ∷ (refused 13 (above ++ text "\nHEIGHT 0\nDEPTH 4\nMAXVAL 255\nTUPLTYPE RGB_ALPHA\nENDHDR\n"))
     -- depth 3, of type RGB
     ∷ (refused 14 (front ++ (text "DEPTH 3\nMAXVAL 255\nTUPLTYPE RGB\n" ++ close)))
     -- depth 5
@@ -222,7 +226,7 @@ readTable =
     -- a byte above 127 in the tuple type
     ∷ (refused 14 (numbers ++ (text "TUPLTYPE RGB_ALPHAä\n" ++ close)))
     -- depth 3 beside a width above the limit: 14 before 2
-    ∷ (refused 14 (text "P7\nWIDTH 5000\nHEIGHT 1\nDEPTH 3\nMAXVAL 255\nTUPLTYPE RGB\nENDHDR\n"))
+    ∷ (refused 14 (above ++ text "\nHEIGHT 1\nDEPTH 3\nMAXVAL 255\nTUPLTYPE RGB\nENDHDR\n"))
     -- a width above the limit
     ∷ (refused 2 (wide (sideLimit + 1) (replicate (4 * (sideLimit + 1)) 7)))
     -- a height above the limit, and no texels: 2 before 15
@@ -256,6 +260,8 @@ unfoldable pub writeTable : List Case
 writeTable =
     -- the spelling, and buffers of just the bytes
     (pamFile 2 1 texels gives header ++ texels)
+    ∷ (pamFile 1 10 (replicate 40 7)
+    gives text "P7\nWIDTH 1\nHEIGHT 10\nDEPTH 4\nMAXVAL 255\nTUPLTYPE RGB_ALPHA\nENDHDR\n" ++ replicate 40 7)
     ∷ (writing 2 1 8 73 gives written 2 1 73)
     ∷ (writing 1 1 4 69 gives written 1 1 69)
     ∷ (writing 9 10 360 426 gives written 9 10 426)

@@ -1,35 +1,20 @@
-//! Pictures as files: a table of files and what reading them answers, a table of writings, and the way there and back.
-use tulonkasa::{slices, Bank, Picture, Refusal, Tile, PAM_HEADER_MOST, SIDE_MOST};
+//! Pictures as files, through the Rust calls: what is taken, each refusal, the buffers that are lent, and the way there and back.
+//! The table of all cases is oracle/pam/src/cases.rs.
+use tulonkasa::{slices, Bank, Picture, Refusal, Tile, SIDE_MOST};
 
-/// The texel bytes of most files: two texels.
-const T: &str = "\x01\x02\x03\x04\x05\x06\x07\x08";
+/// A file as the writer spells it. The others are this one with something changed.
+const USUAL: &str = "P7\nWIDTH 2\nHEIGHT 1\nDEPTH 4\nMAXVAL 255\nTUPLTYPE RGB_ALPHA\nENDHDR\nabcdEFGH";
 
-/// A file as the writer spells it. The others are this one with something changed. Each character stands for a byte.
-const USUAL: &str =
-    "P7\nWIDTH 2\nHEIGHT 1\nDEPTH 4\nMAXVAL 255\nTUPLTYPE RGB_ALPHA\nENDHDR\n\x01\x02\x03\x04\x05\x06\x07\x08";
+/// Its texel bytes.
+const TEXELS: &str = "abcdEFGH";
 
 /// What was in a buffer before a call.
 const OLD: u8 = 0xa5;
 
-/// A file, and what reading it answers.
-struct Reading {
-    name: &'static str,
-    file: Vec<u8>,
-    /// The bytes of the picture's buffer.
-    room: usize,
-    due: Result<Picture, Refusal>,
-}
-
-/// The bytes that a text's characters stand for.
-fn bytes(text: &str) -> Vec<u8> {
-    text.chars().map(|character| u8::try_from(character).expect("a byte")).collect()
-}
-
-/// A file with `from`, which the usual one has once, changed to `to`; and a buffer that is long enough.
-fn reading(name: &'static str, from: &str, to: &str, due: Result<Picture, Refusal>) -> Reading {
-    assert_eq!(USUAL.matches(from).count(), 1, "{name}");
-    let file = bytes(&USUAL.replace(from, to));
-    Reading { name, room: file.len(), file, due }
+/// The usual file with `from`, which it has once, changed to `to`.
+fn edited(from: &str, to: &str) -> Vec<u8> {
+    assert_eq!(USUAL.matches(from).count(), 1, "{from:?}");
+    USUAL.replace(from, to).into_bytes()
 }
 
 /// The header of a file of so many texels, as it is to be written.
@@ -37,265 +22,98 @@ fn header(width: u32, height: u32) -> String {
     format!("P7\nWIDTH {width}\nHEIGHT {height}\nDEPTH 4\nMAXVAL 255\nTUPLTYPE RGB_ALPHA\nENDHDR\n")
 }
 
-fn picture(width: u32, height: u32, texels: &str) -> Picture {
-    Picture { width, height, texels: bytes(texels) }
+/// Files that are taken, each with its size. Their texels are the usual ones, or the first of them.
+fn taken() -> [(Vec<u8>, (u32, u32)); 5] {
+    let lines = "WIDTH 2\nHEIGHT 1\nDEPTH 4\nMAXVAL 255\nTUPLTYPE RGB_ALPHA\n";
+    let others = "# by hand\n\nTUPLTYPE  RGB_ALPHA\nMAXVAL 255\nDEPTH 4\n HEIGHT 01\nWIDTH\t2 \n";
+    [
+        (edited("P7", "P7"), (2, 1)),
+        (edited("WIDTH 2\nHEIGHT 1", "WIDTH 1\nHEIGHT 2"), (1, 2)),
+        (edited("WIDTH 2", "WIDTH 1"), (1, 1)),
+        (edited(lines, others), (2, 1)),
+        (edited("ENDHDR", "ENDHDR of header"), (2, 1)),
+    ]
 }
 
-/// Headers that are spelled in other ways, but say the same.
-fn taken() -> Vec<Reading> {
-    let lines = "WIDTH 2\nHEIGHT 1\nDEPTH 4\nMAXVAL 255\nTUPLTYPE RGB_ALPHA\nENDHDR\n";
-    let blanks = "  WIDTH 2 \n\tHEIGHT \t 1\nDEPTH  4\t\nMAXVAL\x0b255\nTUPLTYPE\t RGB_ALPHA \t\n ENDHDR \n";
-    let changes: [(_, &str, &str); 12] = [
-        ("the writer's spelling", "P7", "P7"),
-        ("another order", lines, "TUPLTYPE RGB_ALPHA\nMAXVAL 255\nDEPTH 4\nHEIGHT 1\nWIDTH 2\nENDHDR\n"),
-        ("a comment after the first line", "P7\n", "P7\n# made by hand\n"),
-        ("a comment before ENDHDR, of any bytes", "ENDHDR", "# \0\u{e4}\u{ff}\nENDHDR"),
-        ("comments that look like lines", "DEPTH", "#WIDTH 9\n#ENDHDR\nDEPTH"),
-        ("a comment of 300 bytes", "DEPTH", &format!("#{}\nDEPTH", "c".repeat(299))),
-        ("lines of nothing, and of white space", "P7\n", "P7\n\n \t \n"),
-        ("white space before, between and behind", lines, blanks),
-        ("carriage returns before all newlines but the first", lines, &lines.replace('\n', "\r\n")),
-        ("thirty zeros before the digit", "WIDTH 2", &format!("WIDTH {}2", "0".repeat(30))),
-        ("words after ENDHDR", "ENDHDR", "ENDHDR of header"),
-        ("bytes after the texels", T, &format!("{T}P7\nmore")),
-    ];
-    let (zeros, five) = ("\0".repeat(4 * SIDE_MOST as usize), T.repeat(5));
-    let leading = USUAL.replace("WIDTH 2", "WIDTH 0010").replace("255", "0255").replace(T, &five);
-    let mut cases: Vec<_> =
-        changes.map(|(name, from, to)| reading(name, from, to, Ok(picture(2, 1, T)))).into_iter().collect();
-    cases.extend([
-        reading("leading zeros, which are decimal", USUAL, &leading, Ok(picture(10, 1, &five))),
-        reading("the longest side", USUAL, &(header(SIDE_MOST, 1) + &zeros), Ok(picture(SIDE_MOST, 1, &zeros))),
-        Reading { room: 8, ..reading("a picture of just its bytes", "P7", "P7", Ok(picture(2, 1, T))) },
-        reading("newlines and ENDHDR in the texels", T, "ENDHDR\n\n", Ok(picture(2, 1, "ENDHDR\n\n"))),
-    ]);
-    cases
-}
-
-/// Changes that all bring the same refusal.
-fn refused(refusal: Refusal, changes: &[(&'static str, &str, &str)]) -> Vec<Reading> {
-    changes.iter().map(|&(name, from, to)| reading(name, from, to, Err(refusal))).collect()
-}
-
-/// Headers that break the description.
-fn headers() -> Vec<Reading> {
-    let past = SIDE_MOST + 1;
-    refused(
-        Refusal::Header,
-        &[
-            // the first line
-            ("an empty file", USUAL, ""),
-            ("P7 and nothing more", USUAL, "P7"),
-            ("P7, a newline and nothing more", USUAL, "P7\n"),
-            ("another magic number", "P7", "P6"),
-            ("a small p", "P7", "p7"),
-            ("something behind P7", "P7", "P7x"),
-            ("a blank behind P7", "P7", "P7 "),
-            ("carriage returns before all newlines", USUAL, &USUAL.replace('\n', "\r\n")),
-            ("a comment before it", "P7", "# hi\nP7"),
-            ("an empty line before it", "P7", "\nP7"),
-            ("a byte-order mark before it", "P7", "\u{ef}\u{bb}\u{bf}P7"),
-            ("no newline behind it", "P7\n", "P7 "),
-            // the last line
-            ("no ENDHDR", "ENDHDR\n", ""),
-            ("no newline behind ENDHDR", &format!("ENDHDR\n{T}"), "ENDHDR"),
-            ("no newline between it and the texels", "ENDHDR\n", "ENDHDR"),
-            ("ENDHDR in a comment alone", "ENDHDR", "#ENDHDR"),
-            ("carriage returns in place of newlines", USUAL, &USUAL.replace('\n', "\r")),
-            // keywords
-            ("an unknown keyword", "DEPTH", "AUTHOR me\nDEPTH"),
-            ("one of more than eight letters", "DEPTH", "COPYRIGHTED 2\nDEPTH"),
-            ("small letters", "WIDTH", "width"),
-            ("no blank behind a keyword", "WIDTH 2", "WIDTH2"),
-            ("an equals sign", "WIDTH 2", "WIDTH=2"),
-            ("a comment behind a blank", "DEPTH", " # hi\nDEPTH"),
-            ("a line of a zero byte", "DEPTH", "\0\nDEPTH"),
-            ("byte 160, which is no white space", "WIDTH 2", "WIDTH\u{a0}2"),
-            ("the type stuck to its keyword", "TUPLTYPE ", "TUPLTYPE"),
-            ("ENDHDR with another letter", "ENDHDR", "ENDHDRS"),
-            // once each
-            ("no WIDTH", "WIDTH 2\n", ""),
-            ("no HEIGHT", "HEIGHT 1\n", ""),
-            ("no DEPTH", "DEPTH 4\n", ""),
-            ("no MAXVAL", "MAXVAL 255\n", ""),
-            ("WIDTH twice, the same", "WIDTH 2\n", "WIDTH 2\nWIDTH 2\n"),
-            ("WIDTH twice, another", "ENDHDR", "WIDTH 1\nENDHDR"),
-            ("MAXVAL twice", "ENDHDR", "MAXVAL 255\nENDHDR"),
-            // numbers
-            ("no number", "WIDTH 2", "WIDTH"),
-            ("a letter", "WIDTH 2", "WIDTH 2x"),
-            ("hexadecimal", "WIDTH 2", "WIDTH 0x2"),
-            ("a plus sign", "WIDTH 2", "WIDTH +2"),
-            ("a minus sign", "WIDTH 2", "WIDTH -2"),
-            ("a point", "WIDTH 2", "WIDTH 2.0"),
-            ("a comma", "WIDTH 2", "WIDTH 1,024"),
-            ("two numbers", "WIDTH 2", "WIDTH 2 3"),
-            ("a number and a remark", "WIDTH 2", "WIDTH 2 # two"),
-            ("a zero byte behind the number", "WIDTH 2", "WIDTH 2\0"),
-            // ranges
-            ("WIDTH 0", "WIDTH 2", "WIDTH 0"),
-            ("HEIGHT 000", "HEIGHT 1", "HEIGHT 000"),
-            ("DEPTH 0", "DEPTH 4", "DEPTH 0"),
-            ("MAXVAL 0", "MAXVAL 255", "MAXVAL 0"),
-            ("MAXVAL 65536", "MAXVAL 255", "MAXVAL 65536"),
-            ("MAXVAL 2^64 + 255", "MAXVAL 255", "MAXVAL 18446744073709551871"),
-            ("TUPLTYPE with nothing", "TUPLTYPE RGB_ALPHA", "TUPLTYPE"),
-            ("TUPLTYPE with white space, then a good one", "TUPLTYPE", "TUPLTYPE \t\nTUPLTYPE"),
-            // before 14, and before 2
-            ("an unknown line beside another type", "RGB_ALPHA", "RGB\nAUTHOR me"),
-            ("a zero side beside a long one", "WIDTH 2\nHEIGHT 1", &format!("WIDTH {past}\nHEIGHT 0")),
-        ],
-    )
-}
-
-/// Headers that keep to the description, but are of other tuples.
-fn tuples() -> Vec<Reading> {
-    let past = SIDE_MOST + 1;
-    refused(
-        Refusal::Tuples,
-        &[
-            ("three samples", "DEPTH 4\nMAXVAL 255\nTUPLTYPE RGB_ALPHA", "DEPTH 3\nMAXVAL 255\nTUPLTYPE RGB"),
-            ("DEPTH 5", "DEPTH 4", "DEPTH 5"),
-            ("DEPTH 2^64 + 4", "DEPTH 4", "DEPTH 18446744073709551620"),
-            ("MAXVAL 254", "MAXVAL 255", "MAXVAL 254"),
-            ("MAXVAL 65535", "MAXVAL 255", "MAXVAL 65535"),
-            ("no TUPLTYPE", "TUPLTYPE RGB_ALPHA\n", ""),
-            ("another type", "RGB_ALPHA", "RGB"),
-            ("small letters", "RGB_ALPHA", "rgb_alpha"),
-            ("a second word", "RGB_ALPHA", "RGB_ALPHA sRGB"),
-            ("a remark", "RGB_ALPHA", "RGB_ALPHA # x"),
-            ("the type twice", "ENDHDR", "TUPLTYPE RGB_ALPHA\nENDHDR"),
-            ("the type in two parts", "RGB_ALPHA", "RGB\nTUPLTYPE ALPHA"),
-            ("a byte above 127", "RGB_ALPHA", "RGB_ALPHA\u{e4}"),
-            ("another depth beside a long side", "WIDTH 2\nHEIGHT 1\nDEPTH 4", &format!("WIDTH {past}\nHEIGHT 1\nDEPTH 3")),
-        ],
-    )
-}
-
-/// Sides above the limit, however far; with texels, and without.
-fn sides() -> Vec<Reading> {
-    let (past, texels) = (SIDE_MOST + 1, "\0".repeat(4 * (SIDE_MOST as usize + 1)));
-    refused(
-        Refusal::Tile,
-        &[
-            ("a width past the limit", USUAL, &(header(past, 1) + &texels)),
-            ("a height past the limit, and no texels", USUAL, &header(2, past)),
-            ("WIDTH 2^32 + 2", "WIDTH 2", "WIDTH 4294967298"),
-            ("WIDTH 2^64 + 2", "WIDTH 2", "WIDTH 18446744073709551618"),
-            ("a hundred digits", "WIDTH 2", &format!("WIDTH 1{}", "0".repeat(99))),
-        ],
-    )
-}
-
-/// Too few texels in the file, and too little room for them.
-fn shortages() -> Vec<Reading> {
-    let mut cases = refused(
-        Refusal::Texels,
-        &[("no texels", T, ""), ("a byte too few", "\x08", ""), ("a byte too few, in the picture too", "\x08", "")],
-    );
-    cases[2].room = 7;
-    for room in [7, 0] {
-        cases.push(Reading { room, ..reading("a short picture", "P7", "P7", Err(Refusal::Picture)) });
+/// Reads to a picture of so many bytes. It then holds the texels of the size that is due, and else what it held before.
+fn reads(file: &[u8], room: usize, due: Result<(u32, u32), Refusal>) {
+    let name = format!("{:?} to {room} bytes", String::from_utf8_lossy(file));
+    let mut picture = vec![OLD; room];
+    assert_eq!(slices::read_pam(file, &mut picture), due, "{name}");
+    let texels = &TEXELS.as_bytes()[..due.map_or(0, |(width, height)| 4 * width as usize * height as usize)];
+    assert_eq!(picture[..texels.len()], *texels, "{name}");
+    assert!(picture[texels.len()..].iter().all(|&byte| byte == OLD), "{name}: the rest of the picture");
+    if due != Err(Refusal::Picture) {
+        let due = due.map(|(width, height)| Picture { width, height, texels: texels.to_vec() });
+        assert_eq!(Picture::from_pam(file), due, "{name}");
     }
-    cases
-}
-
-/// All files.
-fn readings() -> Vec<Reading> {
-    [taken(), headers(), tuples(), sides(), shortages()].into_iter().flatten().collect()
 }
 
 #[test]
-fn every_file_is_answered() {
-    assert_eq!(readings().len(), 94);
-    for Reading { name, file, room, due } in readings() {
-        let mut buffer = vec![OLD; room];
-        let answer = slices::read_pam(&file, &mut buffer);
-        assert_eq!(answer, due.clone().map(|picture| (picture.width, picture.height)), "{name}");
-        let texels = due.as_ref().map_or(&[][..], |picture| &picture.texels);
-        assert_eq!(buffer[..texels.len()], *texels, "{name}");
-        assert!(buffer[texels.len()..].iter().all(|&byte| byte == OLD), "{name}: the rest of the picture");
-        if due != Err(Refusal::Picture) {
-            assert_eq!(Picture::from_pam(&file), due, "{name}");
+fn files_are_read_and_not_what_follows() {
+    for (file, size) in taken() {
+        for more in [&b""[..], b"\n", b"P7\n", b"WIDTH 3\nENDHDR\n", &[0; 100]] {
+            for room in [8, 100] {
+                reads(&[&file, more].concat(), room, Ok(size));
+            }
         }
     }
 }
 
 #[test]
-fn what_follows_a_file_is_not_read() {
-    for Reading { name, file, due, .. } in taken() {
-        for more in [&b"\n"[..], b"P7\n", b"WIDTH 3\nENDHDR\n", &[0; 100]] {
-            assert_eq!(Picture::from_pam(&[&file, more].concat()), due, "{name}");
-        }
-    }
-}
-
-#[test]
-fn every_writing_is_answered() {
-    let (most, past) = (SIDE_MOST, SIDE_MOST + 1);
-    let (all, row) = (4 * most as usize * most as usize, 4 * past as usize);
-    let whole = header(most, most).len() + all;
-    // width, height, the bytes of picture and file, and the answer
-    let cases = [
-        (2, 1, 8, 73, Ok(73)),
-        (2, 1, 8, 100, Ok(73)),
-        (2, 1, 9, 73, Ok(73)),
-        (most, most, all, whole, Ok(whole)),
-        (1, 1, 4, 69, Ok(69)),
-        (9, 10, 360, 426, Ok(426)),
-        (past, 1, row, row + PAM_HEADER_MOST, Err(Refusal::Tile)),
-        (1, past, row, row + PAM_HEADER_MOST, Err(Refusal::Tile)),
-        (past, 0, 0, 0, Err(Refusal::Tile)),
-        (0, 1, 0, 100, Err(Refusal::ZeroSide)),
-        (1, 0, 0, 0, Err(Refusal::ZeroSide)),
-        (0, 0, 0, 0, Err(Refusal::ZeroSide)),
-        (2, 1, 7, 73, Err(Refusal::Picture)),
-        (2, 1, 8, 72, Err(Refusal::Picture)),
-        (2, 1, 0, 0, Err(Refusal::Picture)),
-        (u32::MAX, u32::MAX, 0, 0, Err(Refusal::Tile)),
-    ];
-    let pool = texels(all.max(row));
-    for (width, height, picture, room, due) in cases {
-        let mut file = vec![OLD; room];
-        let answer = slices::write_pam(width, height, &pool[..picture], &mut file);
-        assert_eq!(answer.map(|count| count as usize), due, "{width} by {height}");
-        let count = due.unwrap_or(0);
-        if count > 0 {
-            let header = header(width, height);
-            let (front, back) = file[..count].split_at(header.len());
-            assert!(front == header.as_bytes() && *back == pool[..count - header.len()], "{width} by {height}");
-        }
-        assert!(file[count..].iter().all(|&byte| byte == OLD), "{width} by {height}: the rest of the file");
-    }
-}
-
-/// So many texel bytes, with each value among them.
-fn texels(count: usize) -> Vec<u8> {
-    (0..count as u32).map(|place| (place.wrapping_mul(2_654_435_761) >> 24) as u8).collect()
-}
-
-#[test]
-fn what_was_written_is_read() {
-    let pool = texels(4 * SIDE_MOST as usize * SIDE_MOST as usize);
-    let some = [63, 64, 99, 100, 101, 255, 256, 999, 1000, SIDE_MOST - 1, SIDE_MOST];
-    let sides: Vec<u32> = (1..=11).chain(some).collect();
-    for &width in &sides {
-        for &height in &sides {
-            let texels = pool[..4 * width as usize * height as usize].to_vec();
-            let picture = Picture { width, height, texels };
-            let file = picture.to_pam().unwrap();
-            assert_eq!(file.len(), header(width, height).len() + picture.texels.len());
-            assert!(Picture::from_pam(&file) == Ok(picture), "{width} by {height}");
-        }
-    }
+fn files_are_refused() {
+    let [wide, high] = ["WIDTH", "HEIGHT"].map(|name| format!("{name} {}", SIDE_MOST + 1));
+    reads(b"", 8, Err(Refusal::Header));
+    reads(&edited("P7", "P6"), 8, Err(Refusal::Header));
+    reads(&edited("DEPTH 4", "DEPTH 3"), 8, Err(Refusal::Tuples));
+    reads(&edited("TUPLTYPE RGB_ALPHA\n", ""), 8, Err(Refusal::Tuples));
+    reads(&edited("WIDTH 2", &wide), 8, Err(Refusal::Tile));
+    reads(&edited("HEIGHT 1", &high), 8, Err(Refusal::Tile));
+    reads(&edited("HEIGHT 1", "HEIGHT 2"), 16, Err(Refusal::Texels));
+    reads(&edited("P7", "P7"), 7, Err(Refusal::Picture));
+    reads(&edited("P7", "P7"), 0, Err(Refusal::Picture));
 }
 
 #[test]
 fn a_file_cut_anywhere_is_refused() {
-    let file = bytes(USUAL);
-    for length in 0..file.len() {
-        let due = if length < file.len() - T.len() { Refusal::Header } else { Refusal::Texels };
-        assert_eq!(Picture::from_pam(&file[..length]), Err(due), "{length} bytes");
+    for length in 0..USUAL.len() {
+        let due = if length < USUAL.len() - TEXELS.len() { Refusal::Header } else { Refusal::Texels };
+        reads(&USUAL.as_bytes()[..length], 8, Err(due));
+    }
+}
+
+#[test]
+fn pictures_are_written_or_refused() {
+    // width, height, the bytes of picture and file, and the answer
+    let cases = [
+        (2, 1, 8, 73, Ok(73)),
+        (1, 1, 8, 100, Ok(69)),
+        (SIDE_MOST + 1, 1, 8, 100, Err(Refusal::Tile)),
+        (1, u32::MAX, 8, 100, Err(Refusal::Tile)),
+        (0, 1, 8, 100, Err(Refusal::ZeroSide)),
+        (1, 0, 0, 0, Err(Refusal::ZeroSide)),
+        (2, 1, 7, 100, Err(Refusal::Picture)),
+        (2, 1, 8, 72, Err(Refusal::Picture)),
+    ];
+    for (width, height, length, room, due) in cases {
+        let mut file = vec![OLD; room];
+        let answer = slices::write_pam(width, height, &TEXELS.as_bytes()[..length], &mut file);
+        assert_eq!(answer, due, "{width} by {height}");
+        let (front, rest) = file.split_at(due.unwrap_or(0) as usize);
+        assert!((header(width, height) + TEXELS).as_bytes().starts_with(front), "{width} by {height}");
+        assert!(rest.iter().all(|&byte| byte == OLD), "{width} by {height}: the rest of the file");
+    }
+}
+
+#[test]
+fn what_was_written_is_read() {
+    let sides = [1, 2, 9, 10, 99, 100, 256, SIDE_MOST - 1, SIDE_MOST];
+    for (width, height) in sides.into_iter().flat_map(|width| sides.map(|height| (width, height))) {
+        let texels = (0..4 * width * height).map(|place| (place.wrapping_mul(2_654_435_761) >> 24) as u8).collect();
+        let picture = Picture { width, height, texels };
+        let file = picture.to_pam().unwrap();
+        assert!(file == [header(width, height).as_bytes(), &picture.texels].concat(), "{width} by {height}");
+        assert!(Picture::from_pam(&file) == Ok(picture), "{width} by {height}");
     }
 }
 

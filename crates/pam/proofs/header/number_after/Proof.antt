@@ -1,4 +1,4 @@
--- `pam::header::number_after` takes the first number that is stated well. Assumes nothing.
+-- `pam::header::number_after` keeps a number that is stated once, and well, and makes every other BAD. Assumes nothing.
 use borrow.Author.Tests.{not-true, not-false}
 use Rattle.pam.proofs.header.number_after.Statement.{statement}
 use Rattle.pam.proofs.header.number_after.Tie as tie

@@ -1,4 +1,4 @@
--- `pam::header::tuple_after` takes the first tuple type alone. Assumes nothing.
+-- `pam::header::tuple_after` makes two tuple types another. Assumes nothing.
 use borrow.Author.Tests.{not-true, not-false}
 use Rattle.pam.proofs.header.tuple_after.Statement.{statement}
 use Rattle.pam.proofs.header.tuple_after.Tie as tie

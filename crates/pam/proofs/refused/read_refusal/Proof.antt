@@ -1,5 +1,4 @@
 -- `pam::refused::read_refusal` tests from the last to the first. Assumes nothing.
-use Prim.Native.Nat.{_-_}
 use Rattle.rules.specs.Refusal.{first}
 use borrow.Author.Needs.{needs}
 use Rattle.pam.proofs.refused.read_refusal.Statement.{statement}

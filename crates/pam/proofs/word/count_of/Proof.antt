@@ -1,4 +1,4 @@
--- `pam::word::count_of` reads digits, and keeps its number at 65,536. Assumes nothing.
+-- `pam::word::count_of` reads digits, and keeps its number at the most. Assumes nothing.
 use mathlib.Core.Path.{_≡_}
 use mathlib.Core.Logic.{⊎-elim}
 use Prim.Native.Nat.{_≤_, _-_}
@@ -6,12 +6,13 @@ use native.Mathlib.Omega.{arith}
 use lib.ListN.{length, take}
 use lib.Seq.{take-all}
 use borrow.Author.Needs.{needs}
+use Rattle.pam.specs.Line.{most}
 use Rattle.pam.proofs.Counts.{Counted, counted-none, counted-more, no-digit, digit-low, digit-high, all-digits}
 use Rattle.pam.proofs.word.count_of.Statement.{statement}
 use Rattle.pam.proofs.word.count_of.Tie as tie
 
 abbrev Inv-loop : tie.InvT-loop
-Inv-loop s n₀ i₀ n i = (i ≤ length s) × ((n ≤ 65536) × Counted s i n)
+Inv-loop s n₀ i₀ n i = (i ≤ length s) × ((n ≤ most) × Counted s i n)
 
 abbrev μ-loop : tie.MeasureT-loop
 μ-loop s n₀ i₀ n i = length s - i
