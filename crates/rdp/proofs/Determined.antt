@@ -5,8 +5,10 @@ use mathlib.Core.Path.{_≡_, ap}
 use mathlib.Core.List.{List}
 use Prim.Native.Nat.{ℕ}
 use lib.ListN.{getD}
+use Rattle.rules.specs.Tile.{Tile}
 use Rattle.rules.specs.Refusal.{Outcome}
 use Rattle.rules.proofs.Refused.{determined}
+use Rattle.rdp.specs.declared.tile.TileDescriptor.{TileDescriptor}
 use Rattle.rdp.specs.declared.answer.Answer.{Answer}
 use Rattle.rdp.specs.declared.answer.LoadAnswer.{LoadAnswer}
 use Rattle.rdp.specs.declared.answer.SizeAnswer.{SizeAnswer}
@@ -15,7 +17,7 @@ use Rattle.rdp.specs.declared.answer.SamplingAnswer.{SamplingAnswer}
 use Rattle.rdp.specs.declared.answer.TextAnswer.{TextAnswer}
 use Rattle.rdp.specs.declared.answer.RunAnswer.{RunAnswer}
 use Rattle.rdp.specs.View.{answered, loadAnswered, sizeAnswered, yesAnswered, samplingAnswered, textAnswered, runAnswered}
-use Rattle.rdp.specs.View.{refusalAnswered}
+use Rattle.rdp.specs.View.{refusalAnswered, tileOf}
 
 -- number k of an outcome
 number : ℕ → Outcome → ℕ
@@ -73,3 +75,21 @@ pub refusal-determined : (o : Outcome) (r s : ℕ) (l m : List (List ℕ)) → r
 refusal-determined o r s l m p q =
     let e : refusalAnswered r l ≡ refusalAnswered s m = determined p q in
     (ap (λ o. o .refusal) e, ap (λ o. o .buffers) e)
+
+-- a tile by its eleven numbers
+pub tile-determined : (t : Tile) (r s : TileDescriptor) → tileOf r ≡ t → tileOf s ≡ t → r ≡ s
+tile-determined t r s p q =
+    let same : tileOf r ≡ tileOf s = determined p q in
+    λ i. record {
+      fmt = same i .fmt;
+      siz = same i .siz;
+      palette = same i .palette;
+      cms = same i .cms;
+      cmt = same i .cmt;
+      masks = same i .masks;
+      maskt = same i .maskt;
+      line = record { 0 = same i .line };
+      «tmem_addr» = record { 0 = same i .tmem-addr };
+      width = same i .width;
+      height = same i .height;
+    }

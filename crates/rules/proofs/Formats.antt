@@ -3,16 +3,18 @@ use mathlib.Core.Path.{_≡_, refl, ap, sym, _∙_}
 use mathlib.Core.Bool.{Bool, true, false, cond, _&&_, _||_, true≢false}
 use mathlib.Core.List.{List, [], _∷_}
 use Prim.Native.Nat.{ℕ, _+_, _*_, _<_, _≤_}
+use native.Mathlib.Omega.{arith}
+use native.Mathlib.Decide.{decLt}
 use lib.Dec.{eqb, ltb, leb}
-use lib.ListN.{length}
+use lib.ListN.{length, getD}
 use borrow.Author.Tests.{eqb-true, le-leb, lt-leb}
 use Rattle.rules.specs.Base.{any}
 use Rattle.rules.specs.Tile.{Tile}
 use Rattle.rules.specs.Texdec.{Format, rgba16, rgba32, ci4, ci8, ci16, ia4, ia8, ia16, i4, i8, unknown, known, formatOf}
-use Rattle.rules.specs.Texdec.{tlut, Pair, directPairs, acceptedDirect, accepted, stepKnows}
+use Rattle.rules.specs.Texdec.{tlut, Pair, directPairs, acceptedDirect, accepted, stepKnows, entryOf, rgba16Texel, ia16Texel}
 use Rattle.rules.specs.Reading.{given, trail}
 use Rattle.rules.specs.Sampling.{isRgba32}
-use Rattle.rules.specs.Picture.{address, direct, paletted, texel, formatReads}
+use Rattle.rules.specs.Picture.{address, direct, index, entryAt, paletted, texel, formatReads}
 use Rattle.rules.proofs.Ranges.{both}
 
 -- a test holds of every pair of a list
@@ -122,3 +124,25 @@ pub direct-trail : (fmt siz base palette : ℕ) (swap : Bool) (rel x : ℕ) (b :
 direct-trail fmt siz base palette swap rel x b h =
     format-trail (formatOf fmt siz) base palette swap rel x b (direct-known fmt siz h)
     ∙ ap (λ n. readsBy n base swap rel) (reads-pair fmt siz h)
+
+-- A texel that the step knows gives four bytes.
+either-four : (b : Bool) (v : ℕ) → length (cond b (rgba16Texel v) (ia16Texel v)) ≡ 4
+either-four true v = refl
+either-four false v = refl
+
+module _ (t : Tile) (mode lane : ℕ) (odd : Bool) (rel x : ℕ) (bank : List ℕ) where
+  paletted-four : length (given (paletted t mode lane odd rel x) bank) ≡ 4
+  unfolding paletted given
+  paletted-four =
+      let v = getD bank (address 2048 (8 * t .tmem-addr) odd rel) 0 in
+      let at = entryAt (index t x v) lane in
+      either-four (eqb mode 2) (entryOf (getD bank at 0) (getD bank (at + 1) 0))
+
+  pub texel-four : stepKnows mode (t .fmt) (t .siz) ≡ true → length (given (texel t mode lane odd rel x) bank) ≡ 4
+  texel-four h = go (decLt mode 2)
+    where
+      go : Dec (mode < 2) → length (given (texel t mode lane odd rel x) bank) ≡ 4
+      go (yes p) =
+          rw (texel-direct t mode lane odd rel x p)
+          (direct-four (formatOf (t .fmt) (t .siz)) _ _ odd rel x bank (rw (lt-leb 2 mode p) at h))
+      go (no p) = let q : 2 ≤ mode = omega arith in rw (texel-tlut t mode lane odd rel x q) paletted-four

@@ -16,6 +16,7 @@ pub mod Refused
 pub mod LentTests
 pub mod Ranges
 pub mod Allowed
+pub mod Visible
 pub mod Records
 pub mod ReplayTests
 pub mod Replay

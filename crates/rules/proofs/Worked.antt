@@ -7,7 +7,7 @@ use Rattle.rules.specs.Sampling.{flag, texels}
 use Rattle.rules.specs.Load.{stored, written, list4, splitStores, wholeStores, wordStores, blockStores, tileStores, tlutStores}
 use Rattle.rules.specs.Load.{hardwareStores, entryStores, entryRow, rowStores, madeUp}
 use Rattle.rules.specs.Calls.{blockCall}
-use Rattle.rules.specs.Picture.{picture, plain, plainRow, lookup, lookupRow, texel, paletted, direct}
+use Rattle.rules.specs.Picture.{picture, visiblePicture, plain, plainRow, lookup, lookupRow, texel, paletted, direct}
 use Rattle.rules.specs.Key.{key, keyOf, kept, keptCount}
 use Rattle.rules.specs.Refusal.{first, settle, call}
 use Rattle.rules.specs.Lister.{recordTile, lineOf, recordLine, lowDigits, reversed, decimal, lineText, listing}
@@ -17,7 +17,7 @@ use Rattle.rules.specs.Worked.{table, allSame}
 pub worked : T (allSame table)
 unfolding table tab tabFrom concat mem any distinct trail given andThen prepend upTo accepted acceptedDirect formatOf flag texels
     stored list4 splitStores wholeStores wordStores blockStores tlutStores hardwareStores rowStores
-    picture plain plainRow lookup lookupRow texel paletted direct key keyOf kept keptCount
+    picture visiblePicture plain plainRow lookup lookupRow texel paletted direct key keyOf kept keptCount
     first settle call recordTile lineOf recordLine lowDigits reversed decimal lineText listing
     written marks marked tileStores storesIn outsideIn recordTests countOf left outcome inFile replayed lines texts replayText
     all same howMany madeUp entryStores entryRow blockCall

@@ -9,7 +9,7 @@ use Rattle.rules.specs.Reading.{Reading, give, ask, upTo}
 use Rattle.rules.specs.Tile.{Tile}
 use Rattle.rules.specs.Texdec.{Format, rgba16, rgba32, ci4, ci8, ci16, ia4, ia8, ia16, i4, i8, unknown, formatOf}
 use Rattle.rules.specs.Texdec.{tlut, entryOf, rgba16Texel, ia16Texel, ia8Texel, ia4Texel, i4Texel, same4, nibble}
-use Rattle.rules.specs.Sampling.{flag}
+use Rattle.rules.specs.Sampling.{flag, visible}
 
 -- "(rel, xor 4 on odd rows)"
 abbrev pub swapOdd : Bool → ℕ → ℕ
@@ -96,6 +96,11 @@ lookup t mode lane = upTo 4 (lookupRow t mode lane)
 -- the picture that the flag calls for
 unfoldable pub picture : Tile → ℕ → ℕ → Reading
 picture t mode lane = elim (flag t mode) [ true ↦ lookup t mode lane | false ↦ plain t mode lane ]
+
+-- The visible picture, of the columns and rows that a renderer shows. "Other tiles keep their keys, and so does every lookup picture": the
+-- whole tile's flag decides first.
+unfoldable pub visiblePicture : Tile → ℕ → ℕ → Reading
+visiblePicture t mode lane = elim (flag t mode) [ true ↦ lookup t mode lane | false ↦ plain (visible t) mode lane ]
 
 -- "texels times 3 in modes 2 and 3, else 1, 2 or 4 by pair"
 abbrev pub formatReads : Format → ℕ

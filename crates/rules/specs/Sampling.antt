@@ -33,6 +33,28 @@ flag t mode =
     || tallOdd t mode
     || yuvTlut t mode
 
+-- Document 02's item 4: "On each axis, where the mask is not 0, the clamp bit is clear and 2^mask is below the size, the key shall now
+-- come from the first 2^mask columns or rows."
+abbrev pub visibleSide : ℕ → ℕ → ℕ → ℕ
+visibleSide cm mask size = cond (repeats cm mask && ltb (2 ^ mask) size) (2 ^ mask) size
+
+-- the tile with its sides cut to what is visible
+abbrev pub visible : Tile → Tile
+visible t =
+    record {
+      fmt = t .fmt;
+      siz = t .siz;
+      palette = t .palette;
+      cms = t .cms;
+      cmt = t .cmt;
+      masks = t .masks;
+      maskt = t .maskt;
+      line = t .line;
+      tmem-addr = t .tmem-addr;
+      width = visibleSide (t .cms) (t .masks) (t .width);
+      height = visibleSide (t .cmt) (t .maskt) (t .height);
+    }
+
 -- "The allocation extent is 4,096 by 4 for flag 1, else max(width,1) by max(height,1)."
 unfoldable pub extentWidth : Tile → ℕ → ℕ
 extentWidth t mode = cond (flag t mode) 4096 (max (t .width) 1)
@@ -46,3 +68,7 @@ lookupTexels = 16384
 
 unfoldable pub texels : Tile → ℕ → ℕ
 texels t mode = cond (flag t mode) lookupTexels (t .width * t .height)
+
+-- the texels of the visible picture; the flag is the whole tile's
+unfoldable pub visibleTexels : Tile → ℕ → ℕ
+visibleTexels t mode = cond (flag t mode) lookupTexels (visible t .width * visible t .height)

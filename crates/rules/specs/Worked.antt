@@ -1,5 +1,5 @@
--- "Banks and texels worked by hand": P1 to P12 in one table, with the fourth slip, the lister's example, a replay and what loads make up
--- beside them. "Fields not named are 0, the bank is fresh." `Rattle.rules.proofs.Worked` proves every row.
+-- "Banks and texels worked by hand": P1 to P12 in one table, with the fourth slip, the lister's example, a wall that repeats, a replay and
+-- what loads make up beside them. "Fields not named are 0, the bank is fresh." `Rattle.rules.proofs.Worked` proves every row.
 use mathlib.Core.Bool.{Bool, true}
 use mathlib.Core.List.{List, [], _∷_, _++_, map}
 use Prim.Native.Nat.{ℕ, _+_}
@@ -62,6 +62,27 @@ masked cms masks =
       width = 16;
       height = 0;
     }
+
+-- Document 02's item 4. A wall of I8, four columns and a row, that repeats after two columns, with cms.
+abbrev wall : ℕ → Tile
+wall cms =
+    record {
+      fmt = 4;
+      siz = 1;
+      palette = 0;
+      cms = cms;
+      cmt = 0;
+      masks = 1;
+      maskt = 0;
+      line = 1;
+      tmem-addr = 0;
+      width = 4;
+      height = 1;
+    }
+
+-- a record of that wall, with a zero bank
+abbrev listedWall : List ℕ
+listedWall = 4 ∷ 1 ∷ 0 ∷ 0 ∷ 0 ∷ 0 ∷ 1 ∷ 0 ∷ 0 ∷ 1 ∷ 0 ∷ 0 ∷ 0 ∷ 4 ∷ 0 ∷ 1 ∷ fresh
 
 -- n bytes of a bank from an address on
 abbrev bytesAt : ℕ → ℕ → List ℕ → List ℕ
@@ -172,10 +193,15 @@ table =
     ∷ (trail (picture ci8One 2 0) byte3 gives 0 ∷ 2072 ∷ 2073 ∷ [])
     ∷ (keptCount ci8One 2 0 byte3 ∷ [] gives 3 ∷ [])
     ∷ (key ci8One 2 0 byte3 gives byte3)
+    -- a wall keeps what is shown of it, mirrored too; clamped it does not repeat
+    ∷ (bytesAt 0 4 (key (wall 0) 0 0 (replicate bankSize 7)) gives 7 ∷ 7 ∷ 0 ∷ 0 ∷ [])
+    ∷ (map (λ cms. keptCount (wall cms) 0 0 fresh) (0 ∷ 1 ∷ 2 ∷ 3 ∷ []) gives 2 ∷ 2 ∷ 4 ∷ 4 ∷ [])
     -- the fourth slip: "Lookup rel 3 on an odd row, base 0, (0,2): bytes 7 and 0, not 7 and 8"
     ∷ (trail (texel (tile 0 2 0 0 0 0) 0 0 true 3 0) fresh gives 7 ∷ 0 ∷ [])
     -- the lister's example prints "0 0 2 2"
     ∷ (listing listed gives 48 ∷ 32 ∷ 48 ∷ 32 ∷ 50 ∷ 32 ∷ 50 ∷ 10 ∷ [])
+    -- a wall's line is "0 0 2 4": "Kept counts in the lister follow; texel counts don't."
+    ∷ (listing listedWall gives 48 ∷ 32 ∷ 48 ∷ 32 ∷ 50 ∷ 32 ∷ 52 ∷ 10 ∷ [])
     -- the replay's lines, "10 0", "0 4", "4 0", "11 0", "0 8", "0 6", "8 0", and the bank's first word after them
     ∷ (concat (lines (inFile companion) (recordsIn replayInput) start)
     gives 10 ∷ 0 ∷ 0 ∷ 4 ∷ 4 ∷ 0 ∷ 11 ∷ 0 ∷ 0 ∷ 8 ∷ 0 ∷ 6 ∷ 8 ∷ 0 ∷ [])
