@@ -1,19 +1,19 @@
--- A texel that the step knows gives four bytes, and every texel makes the reads of its pair.
+-- Every texel makes the reads of its pair; four bytes put to the front are the channels.
 use mathlib.Core.Path.{_≡_, refl, ap}
 use mathlib.Core.Bool.{Bool, true, false, cond, not, _||_}
 use mathlib.Core.List.{List, [], _∷_}
-use Prim.Native.Nat.{ℕ, _+_, _*_, _<_, _≤_}
+use Prim.Native.Nat.{ℕ, _<_, _≤_}
 use native.Mathlib.Decide.{decLt}
 use native.Mathlib.Omega.{arith}
 use lib.Dec.{eqb}
-use lib.ListN.{length, getD, take}
+use lib.ListN.{length, take}
 use borrow.Author.Tests.{le-leb, lt-leb}
-use Rattle.rules.specs.Reading.{given, trail}
+use Rattle.rules.specs.Reading.{trail}
 use Rattle.rules.specs.Tile.{Tile}
 use Rattle.rules.specs.Texdec.{Format, rgba16, rgba32, ci4, ci8, ci16, ia4, ia8, ia16, i4, i8, unknown, formatOf}
-use Rattle.rules.specs.Texdec.{known, tlut, stepKnows, entryOf, rgba16Texel, ia16Texel}
-use Rattle.rules.specs.Picture.{address, direct, index, entryAt, paletted, texel, formatReads, readsEach}
-use Rattle.rules.proofs.Formats.{texel-tlut, texel-direct, direct-four}
+use Rattle.rules.specs.Texdec.{known, tlut, stepKnows}
+use Rattle.rules.specs.Picture.{direct, paletted, texel, formatReads, readsEach}
+use Rattle.rules.proofs.Formats.{texel-tlut, texel-direct}
 use Rattle.decoder.specs.Rows.{four, trailStep}
 use Rattle.decoder.proofs.Formats.{format-few}
 
@@ -32,27 +32,7 @@ module _ (base palette : ℕ) (odd : Bool) (rel x : ℕ) (bank : List ℕ) where
   direct-reads i8 = refl
   direct-reads unknown = refl
 
-either-four : (b : Bool) (v : ℕ) → length (cond b (rgba16Texel v) (ia16Texel v)) ≡ 4
-either-four true v = refl
-either-four false v = refl
-
 module _ (t : Tile) (mode lane : ℕ) (odd : Bool) (rel x : ℕ) (bank : List ℕ) where
-  paletted-four : length (given (paletted t mode lane odd rel x) bank) ≡ 4
-  unfolding paletted given
-  paletted-four =
-      let v = getD bank (address 2048 (8 * t .tmem-addr) odd rel) 0 in
-      let at = entryAt (index t x v) lane in
-      either-four (eqb mode 2) (entryOf (getD bank at 0) (getD bank (at + 1) 0))
-
-  pub texel-four : stepKnows mode (t .fmt) (t .siz) ≡ true → length (given (texel t mode lane odd rel x) bank) ≡ 4
-  texel-four h = go (decLt mode 2)
-    where
-      go : Dec (mode < 2) → length (given (texel t mode lane odd rel x) bank) ≡ 4
-      go (yes p) =
-          rw (texel-direct t mode lane odd rel x p)
-          (direct-four (formatOf (t .fmt) (t .siz)) _ _ odd rel x bank (rw (lt-leb 2 mode p) at h))
-      go (no p) = let q : 2 ≤ mode = omega arith in rw (texel-tlut t mode lane odd rel x q) paletted-four
-
   pub texel-reads : length (trail (texel t mode lane odd rel x) bank) ≡ readsEach t mode
   unfolding readsEach paletted trail
   texel-reads = go (decLt mode 2)

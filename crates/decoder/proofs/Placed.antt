@@ -18,7 +18,8 @@ use Rattle.decoder.specs.Steps.{Decodes}
 use Rattle.decoder.specs.Rows.{four, relIn, xIn, rowTexel, rowOf, oneTexel, oneRow, told, trailStep}
 use Rattle.rules.proofs.Parts.{Parts, length-whole, given-parts}
 use Rattle.decoder.proofs.Told.{told-parts, told-length}
-use Rattle.decoder.proofs.Lengths.{texel-four, texel-reads, four-is}
+use Rattle.rules.proofs.Formats.{texel-four}
+use Rattle.decoder.proofs.Lengths.{texel-reads, four-is}
 
 module _ (t : Tile) (mode lane : ℕ) (r : Row) (i : ℕ) (bank : List ℕ) where
   row-four : stepKnows mode (t .fmt) (t .siz) ≡ true → length (given (rowTexel t mode lane r i) bank) ≡ 4

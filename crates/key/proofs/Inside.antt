@@ -9,8 +9,8 @@ use Rattle.rules.specs.Key.{Bytes}
 use Rattle.rules.specs.Tile.{Tile}
 use Rattle.rules.specs.Texdec.{Format, rgba16, rgba32, ci4, ci8, ci16, ia4, ia8, ia16, i4, i8, unknown, tlut, indexPart}
 use Rattle.rules.specs.Reading.{Reading, trail, upTo}
-use Rattle.rules.specs.Sampling.{flag}
-use Rattle.rules.specs.Picture.{address, direct, paletted, index, texel, plainRow, plain, lookupRow, lookup, picture}
+use Rattle.rules.specs.Sampling.{flag, visible}
+use Rattle.rules.specs.Picture.{address, direct, paletted, index, texel, plainRow, plain, lookupRow, lookup, visiblePicture}
 use Rattle.texdec.proofs.Palettes.{by-part, part-small}
 use Rattle.rules.proofs.Maps.{Below}
 use Rattle.rules.proofs.Readings.{trail-then}
@@ -62,10 +62,12 @@ texel-below t mode lane swap rel x b p l s = go (tlut mode) refl
     go false e = rw (texel, e) (direct-below _ _ _ _ _ _ b)
 
 pub picture-below : (t : Tile) (mode lane : ℕ) (b : List ℕ) → t .palette ≤ 15 → lane ≤ 3 → Bytes b
-    → Below 4096 (trail (picture t mode lane) b)
-unfolding picture plain plainRow lookup lookupRow
+    → Below 4096 (trail (visiblePicture t mode lane) b)
+unfolding visiblePicture plain plainRow lookup lookupRow
 picture-below t mode lane b p l s = go (flag t mode) refl
   where
-    go : (u : Bool) → flag t mode ≡ u → Below 4096 (trail (picture t mode lane) b)
-    go true e = rw (picture, e) (up-below 4 _ b (λ r. up-below 4096 _ b (λ rel. texel-below t mode lane _ _ _ b p l s)))
-    go false e = rw (picture, e) (up-below (t .height) _ b (λ y. up-below (t .width) _ b (λ x. texel-below t mode lane _ _ _ b p l s)))
+    go : (u : Bool) → flag t mode ≡ u → Below 4096 (trail (visiblePicture t mode lane) b)
+    go true e = rw (visiblePicture, e) (up-below 4 _ b (λ r. up-below 4096 _ b (λ rel. texel-below t mode lane _ _ _ b p l s)))
+    go false e =
+        rw (visiblePicture, e)
+        (up-below (visible t .height) _ b (λ y. up-below (visible t .width) _ b (λ x. texel-below (visible t) mode lane _ _ _ b p l s)))

@@ -9,3 +9,4 @@ pub mod Called
 pub mod Cuts
 pub mod Within
 pub mod Demand3
+pub mod Shown

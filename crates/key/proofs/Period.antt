@@ -10,8 +10,8 @@ use lib.ListN.{replicate}
 use Rattle.rules.specs.Base.{mem}
 use Rattle.rules.specs.Tile.{Tile}
 use Rattle.rules.specs.Reading.{Reading, trail, upTo}
-use Rattle.rules.specs.Sampling.{flag}
-use Rattle.rules.specs.Picture.{texel, column, plainRow, plain, lookup, picture}
+use Rattle.rules.specs.Sampling.{flag, visible}
+use Rattle.rules.specs.Picture.{texel, column, plainRow, plain, lookup, visiblePicture}
 use Rattle.key.specs.Notes.{noted, Notes}
 use Rattle.rules.proofs.Readings.{trail-then}
 use Rattle.rules.proofs.Tables.{mem-append}
@@ -64,15 +64,15 @@ pub plain-capped : (t : Tile) (mode lane : ℕ) (b : List ℕ) (a : ℕ)
 unfolding plain
 plain-capped t mode lane b a = capped (plainRow t mode lane) b (row-period t mode lane) (t .height) a
 
--- the notes of a lookup, and of a plain picture's first 256 rows, are those of the picture that the flag calls for
+-- the notes of a lookup, and of the visible tile's first 256 rows, are those of the visible picture
 module _ (t : Tile) (mode lane : ℕ) (b s u : List ℕ) (z : s ≡ replicate 4096 0) where
-  pub lookup-notes : flag t mode ≡ true → u ≡ noted s (trail (lookup t mode lane) b) → Notes u (trail (picture t mode lane) b)
-  unfolding picture
-  lookup-notes f e = rw (picture, f, e, z) (notes-of (trail (lookup t mode lane) b))
+  pub lookup-notes : flag t mode ≡ true → u ≡ noted s (trail (lookup t mode lane) b) → Notes u (trail (visiblePicture t mode lane) b)
+  unfolding visiblePicture
+  lookup-notes f e = rw (visiblePicture, f, e, z) (notes-of (trail (lookup t mode lane) b))
 
-  pub plain-notes : flag t mode ≡ false → u ≡ noted s (trail (upTo (min (t .height) 256) (plainRow t mode lane)) b)
-      → Notes u (trail (picture t mode lane) b)
-  unfolding picture
-  plain-notes f e =
-      rw (picture, f, e, z)
-      (notes-same _ _ _ (plain-capped t mode lane b) (notes-of (trail (upTo (min (t .height) 256) (plainRow t mode lane)) b)))
+  pub plain-notes : (v : Tile) → v ≡ visible t → flag t mode ≡ false
+      → u ≡ noted s (trail (upTo (min (v .height) 256) (plainRow v mode lane)) b) → Notes u (trail (visiblePicture t mode lane) b)
+  unfolding visiblePicture
+  plain-notes v w f e =
+      rw (visiblePicture, f, e, z, ← w)
+      (notes-same _ _ _ (plain-capped v mode lane b) (notes-of (trail (upTo (min (v .height) 256) (plainRow v mode lane)) b)))

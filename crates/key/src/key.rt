@@ -3,7 +3,7 @@ ghost use mathlib.Core.Path.{_≡_};
 ghost use mathlib.Core.List.{[], _∷_};
 ghost use lib.ListN.{length};
 ghost use Rattle.rules.specs.Reading.{trail};
-ghost use Rattle.rules.specs.Picture.{picture};
+ghost use Rattle.rules.specs.Picture.{visiblePicture};
 ghost use Rattle.rules.specs.Refusal.{first};
 ghost use Rattle.rules.specs.Calls.{pairTests, keyTests, keyCall};
 ghost use Rattle.rules.specs.Key.{key, keptCount};
@@ -19,6 +19,7 @@ use rdp::refusal;
 use rdp::tile::TileDescriptor;
 use texdec::pair::pair_refusal;
 use tile_sampling::sampling::TileSampling;
+use tile_sampling::visible::visible;
 use tmem::bank::Bank;
 
 // The first refusal of the call's inputs. An accepted pair is always known to the texel step, so 9 is never given.
@@ -34,19 +35,20 @@ fn key_refusal(bank: &[u8], tile: TileDescriptor, tlut: u32, lane: u32, out: &[u
     pair_refusal(tile, tlut, lane)
 }
 
-// Notes what the picture that the flag calls for reads.
+// Notes what the visible picture reads: the lookup, or what a renderer shows of the plain one. The flag is the whole tile's.
 fn note_picture(bank: &[u8], notes: &mut [u8], tile: TileDescriptor, tlut: u32, lane: u32)
     requires { ⌜ length (now bank) ≡ bankSize ⌝ }
     requires { ⌜ now notes ≡ noNotes ⌝ }
     requires { ⌜ first (pairTests (tileOf tile) tlut lane []) ≡ 0 ⌝ }
-    ensures { λ _. ⌜ Notes (now (notes .exit)) (trail (picture (tileOf tile) tlut lane) (now (bank .entry))) ⌝ }
+    ensures { λ _. ⌜ Notes (now (notes .exit)) (trail (visiblePicture (tileOf tile) tlut lane) (now (bank .entry))) ⌝ }
 {
     let sampling = TileSampling::from_tile(tile, tlut);
     if sampling.lookup {
         note_lookup(bank, notes, tile, tlut, lane);
         return;
     }
-    note_plain(bank, notes, tile, tlut, lane);
+    let shown = visible(tile);
+    note_plain(bank, notes, shown, tlut, lane);
 }
 
 // The key of that picture, and its kept count.

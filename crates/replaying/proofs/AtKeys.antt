@@ -8,9 +8,9 @@ use Prim.Native.Nat.{ℕ, _<_}
 use lib.ListN.{length, getD}
 use Rattle.rules.specs.Base.{mem, distinct}
 use Rattle.rules.specs.Tile.{Tile}
-use Rattle.rules.specs.Sampling.{texels}
+use Rattle.rules.specs.Sampling.{visibleTexels}
 use Rattle.rules.specs.Reading.{given, trail, Agree}
-use Rattle.rules.specs.Picture.{picture}
+use Rattle.rules.specs.Picture.{visiblePicture}
 use Rattle.rules.specs.Key.{key, keptCount, flipped, Bytes}
 use Rattle.rules.specs.Refusal.{first}
 use Rattle.rules.specs.Replay.{laneIn, tileIn, modeIn, asksKey, recordTests, Carried, fresh, inFile, lineIn, onward, replayed}
@@ -53,17 +53,18 @@ module _ (file : List ℕ) (bytes : Bytes file) (before : List (List ℕ)) (r : 
     unfolding inFile
     line-is = key-line (length file) _ r here asks done
 
-    pub counts : (keptCount tile mode lane (here .bank) ≡ distinct 4096 (trail (picture tile mode lane) (here .bank)))
-        × Below 4096 (trail (picture tile mode lane) (here .bank))
+    pub counts : (keptCount tile mode lane (here .bank) ≡ distinct 4096 (trail (visiblePicture tile mode lane) (here .bank)))
+        × Below 4096 (trail (visiblePicture tile mode lane) (here .bank))
     counts = count-keeps tile mode lane (here .bank) (is-allowed .inside .palette) (is-allowed .lane-le) (sound .bytes)
 
     pub keeps : (length (key tile mode lane (here .bank)) ≡ 4096)
         × ((a : ℕ) → getD (key tile mode lane (here .bank)) a 0
-        ≡ cond (mem a (trail (picture tile mode lane) (here .bank))) (getD (here .bank) a 0) 0)
+        ≡ cond (mem a (trail (visiblePicture tile mode lane) (here .bank))) (getD (here .bank) a 0) 0)
     keeps = key-keeps tile mode lane (here .bank) (sound .bank-size)
 
-    pub same-picture : (given (picture tile mode lane) (key tile mode lane (here .bank)) ≡ given (picture tile mode lane) (here .bank))
-        × (trail (picture tile mode lane) (key tile mode lane (here .bank)) ≡ trail (picture tile mode lane) (here .bank))
+    pub same-picture : (given (visiblePicture tile mode lane) (key tile mode lane (here .bank))
+        ≡ given (visiblePicture tile mode lane) (here .bank))
+        × (trail (visiblePicture tile mode lane) (key tile mode lane (here .bank)) ≡ trail (visiblePicture tile mode lane) (here .bank))
         × (keptCount tile mode lane (key tile mode lane (here .bank)) ≡ keptCount tile mode lane (here .bank))
     same-picture = key-same-picture tile mode lane (here .bank) (sound .bank-size)
 
@@ -72,9 +73,9 @@ module _ (file : List ℕ) (bytes : Bytes file) (before : List (List ℕ)) (r : 
 
     pub equal : (other : List ℕ) → length other ≡ 4096
         → (key tile mode lane (here .bank) ≡ key tile mode lane other)
-        ↔ Agree (trail (picture tile mode lane) (here .bank)) (here .bank) other
+        ↔ Agree (trail (visiblePicture tile mode lane) (here .bank)) (here .bank) other
     equal other n = equal-keys tile mode lane (here .bank) other (sound .bank-size) n
 
-    pub flips : (a : ℕ) → mode < 2 → mem a (trail (picture tile mode lane) (here .bank)) ≡ true
-        → Changed (texels tile mode) (picture tile mode lane) (flipped a (here .bank)) (here .bank)
+    pub flips : (a : ℕ) → mode < 2 → mem a (trail (visiblePicture tile mode lane) (here .bank)) ≡ true
+        → Changed (visibleTexels tile mode) (visiblePicture tile mode lane) (flipped a (here .bank)) (here .bank)
     flips a h = flip-changes tile mode lane (here .bank) a h (is-allowed .pair) (sound .bank-size) (sound .bytes)

@@ -4,7 +4,7 @@ ghost use mathlib.Core.Path.{_≡_};
 ghost use Prim.Native.Nat.{_^_, max};
 ghost use lib.Dec.{ltb};
 ghost use Rattle.rules.specs.Calls.{samplingCall};
-ghost use Rattle.rules.specs.Sampling.{pastSize, flag};
+ghost use Rattle.rules.specs.Sampling.{repeats, pastSize, flag};
 ghost use Rattle.rdp.specs.View.{tileOf, samplingAnswered};
 use rdp::answer::SamplingAnswer;
 use rdp::tile;
@@ -40,11 +40,18 @@ fn exceeds(mask: u32, size: u32) -> bool
     at_least_one(size) < 1u32 << mask
 }
 
-// The axis repeats past its size: it has a mask, the clamp bit is clear, and 2^mask exceeds the size.
+// The axis repeats: it has a mask, and the clamp bit is clear.
+pub(crate) fn repeats(cm: u32, mask: u32) -> bool
+    ensures { λ r. ⌜ r ≡ repeats cm mask ⌝ }
+{
+    (mask != 0) & (cm & 2 == 0)
+}
+
+// The axis repeats past its size: 2^mask exceeds the size.
 fn past_size(cm: u32, mask: u32, size: u32) -> bool
     ensures { λ r. ⌜ r ≡ pastSize cm mask size ⌝ }
 {
-    (mask != 0) & (cm & 2 == 0) & exceeds(mask, size)
+    repeats(cm, mask) & exceeds(mask, size)
 }
 
 impl TileSampling {

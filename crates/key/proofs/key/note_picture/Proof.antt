@@ -1,6 +1,8 @@
--- `key::key::note_picture` notes by the flag: a lookup, or the first 256 rows, which read all. Assumes nothing.
+-- `key::key::note_picture` notes by the whole tile's flag: a lookup, or the first 256 rows of what is visible, which read all of that.
+-- Assumes nothing.
 use Rattle.key.proofs.Period.{lookup-notes, plain-notes}
 use Rattle.rules.proofs.Allowed.{allowed}
+use Rattle.rules.proofs.Visible.{visible-allowed}
 use lib.ListN.{length, length-replicate}
 use Prim.Native.Nat.{ℕ}
 use mathlib.Core.Path.{_≡_, ap, sym, _∙_}
@@ -29,10 +31,14 @@ returns c =
     lookup-notes _ _ _ _ _ _ (i .before .before .before .before .pre .1 .0) (sym (i .before .from-tile .ensures .0) ∙ i .if1 .taken)
     (c .before .before .note-lookup .ensures)
 
+visible-requires : tie.Need-visible-requires
+visible-requires c κs = search needs
+
 note-plain-requires : tie.Need-note-plain-requires
 note-plain-requires c κs =
-    let s = c .before .before .before .before .before in
-    let w = allowed _ _ _ (s .pre .1 .1) in
+    let v = c .before in
+    let s = v .before .before .before .before .before in
+    let w = allowed _ _ _ (visible-allowed _ _ (s .args .tlut) (s .args .lane) (v .visible .ensures) (s .pre .1 .1)) in
     ((s .pre .0, whole s), (w .inside, (w .lane-le, w .pair)))
 
 same-length-2 : tie.Need-same-length-2
@@ -40,8 +46,10 @@ same-length-2 c = search needs
 
 returns-2 : tie.Need-returns-2
 returns-2 c =
-    let i = c .before .before .before .before in
-    plain-notes _ _ _ _ _ _ (i .before .before .before .before .pre .1 .0) (sym (i .before .from-tile .ensures .0) ∙ i .if1 .left)
+    let v = c .before .before .before .before in
+    let i = v .before in
+    plain-notes _ _ _ _ _ _ (i .before .before .before .before .pre .1 .0) _ (v .visible .ensures)
+    (sym (i .before .from-tile .ensures .0) ∙ i .if1 .left)
     (c .before .before .note-plain .ensures)
 
 pub note-picture-spec : {M : Type 1} → statement M
@@ -52,6 +60,7 @@ note-picture-spec =
     note-lookup-requires
     same-length
     returns
+    visible-requires
     note-plain-requires
     same-length-2
     returns-2)
