@@ -1,8 +1,8 @@
 /* Tulonkasa: the texture memory of a cartridge game console, as a C library.
  *
  * The texture memory is a bank of 4,096 bytes. The library loads it (block, tile, palette), makes pictures of it, says
- * which of its bytes a tile can reach, and cuts a key for a picture: the bank with the bytes that making the picture
- * reads kept, and all others zero. It writes a picture as a file for other programs, and reads such files. It also replays a
+ * which of its bytes a tile can reach, and cuts a key for a picture: the bank with the bytes kept that making its visible
+ * part reads, and all others zero. It writes a picture as a file for other programs, and reads such files. It also replays a
  * capture, which is a file of records of such loads and keys.
  *
  * Rules that hold for every call:
@@ -257,8 +257,18 @@ uint32_t tk_palette_nonreplicated(const uint8_t *bank, size_t bank_length, uint8
 
 /* ---- Keys ----------------------------------------------------------------------------------------------------------- */
 
-/* Overwrites the key: the bank with each byte kept that the picture reads, and all others zero. The picture is the one that
- * tk_sampling's flag names. Refuses 1 (bank, key), 2, 3, 5, 9. Answers the count of kept bytes. */
+/* Overwrites the key: the bank with each byte kept that the visible picture reads, and all others zero.
+ *
+ * The visible picture is what a renderer shows of the picture that tk_sampling's flag names. Of a lookup (flag 1) that is
+ * all. Of a plain picture (flag 0) it is the first 2^masks columns, where masks is not 0, cms does not clamp (value 2) and
+ * 2^masks is below width: from there on they repeat, mirrored or not. Else it is all columns. Rows likewise, by maskt, cmt and
+ * height.
+ *
+ * So a wall that repeats every sixteen columns (masks 4) has one key when its tile is 16, 32, 64 or 128 wide, whatever the
+ * bank holds behind the sixteenth column. For the same tile, mode and lane a key gives the same visible picture as its bank.
+ * The whole picture, as tk_sample_tile makes it, may have other texels outside the visible columns and rows.
+ *
+ * Refuses 1 (bank, key), 2, 3, 5, 9. Answers the count of kept bytes. */
 tk_answer tk_key(const uint8_t *bank, size_t bank_length, TK_TILE_PARAMETERS, uint32_t lane, uint8_t *key,
                  size_t key_length);
 

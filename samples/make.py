@@ -210,9 +210,20 @@ def odd_ones(game, count):
         game.take(fmt=RGBA, siz=2, line=8, width=1280 + frame, height=32)
 
 
+def bricks(game, count):
+    """Brick walls of 16 by 16 texels, two bytes each, that repeat. Each is captured under several sizes, with other
+    leftover bytes each time: what is shown of it is the same, and so is its key."""
+    for wall in range(count):
+        clay = random.Random(6000 + wall)
+        rows = [clay.randbytes(32) for _ in range(16)]
+        for width, height in ((16, 16), (32, 16), (64, 16), (128, 16), (64, 64)):
+            game.clutter()
+            game.picture([rows], fmt=RGBA, siz=2, masks=4, maskt=4, line=4, width=width, height=height)
+
+
 def played(game, counts):
     """A game with so many pictures of each sort, as it was recorded."""
-    for part, count in zip((font, walls, signs, posters, clouds, suns, odd_ones), counts, strict=True):
+    for part, count in zip((font, walls, signs, posters, clouds, suns, odd_ones, bricks), counts, strict=True):
         part(game, count)
     return game
 
@@ -243,6 +254,21 @@ def cases():
     made.append(record(mixed, fmt=RGBA, siz=3, line=4, tmem_addr=255, width=16, height=17))
     made.append(record(mixed, fmt=IA, siz=2, line=4, width=0, height=9))
     made.append(record(mixed, fmt=RGBA, siz=2, line=510, tmem_addr=511, width=1024, height=1024))
+    # a wall that repeats every sixteen columns, under four widths and mirrored, keeps 256 bytes; clamped it keeps 304
+    wall = dict(fmt=I, siz=1, masks=4, line=2, height=16)
+    for width in (16, 32, 64, 128):
+        made.append(record(mixed, **wall, width=width))
+    for cms in (1, 2, 3):
+        made.append(record(mixed, **wall, cms=cms, width=64))
+    # repeating down alone, and both ways; no more columns than it repeats; and two of four indexes, with their entries
+    made.append(record(mixed, fmt=I, siz=1, maskt=2, line=1, width=8, height=64))
+    made.append(record(mixed, fmt=I, siz=1, masks=2, maskt=3, line=2, width=9, height=11))
+    made.append(record(mixed, fmt=I, siz=1, masks=3, line=2, width=8, height=11))
+    made.append(record(bytes(range(3, 7)) + zeros[4:], fmt=CI, siz=1, mode=2, masks=1, width=4, height=1))
+    # a lookup, by an odd line or by one side, is whole, though a side repeats; of an even line two bytes are kept
+    for line in (1, 2):
+        made.append(record(mixed, fmt=I, siz=1, maskt=1, line=line, width=1, height=257))
+    made.append(record(mixed, fmt=I, siz=1, masks=5, maskt=1, line=2, width=16, height=16))
     return b"".join(made) + mixed[:100]
 
 
@@ -382,6 +408,30 @@ def limits():
     ]
 
 
+def repeating():
+    """Keys of tiles that repeat inside their size. The bank is zeros before."""
+    return [
+        # 0 to 63. Four columns are shown of eight, of 64 and of five, and mirrored
+        case("0 64", BLOCK, words=8, length=64),
+        case("0 12", KEY, masks=2),
+        case("0 12", KEY, masks=2, width=64),
+        case("0 12", KEY, masks=2, width=5),
+        case("0 12", KEY, masks=2, cms=1),
+        # clamped, and where it repeats every eight: all eight
+        case("0 24", KEY, masks=2, cms=2),
+        case("0 24", KEY, masks=2, cms=3),
+        case("0 24", KEY, masks=3),
+        # two rows are shown of eight; and four columns of two rows, which are 0 to 3 and, halves swapped, 12 to 15
+        case("0 48", KEY, maskt=1, height=8),
+        case("0 24", KEY, masks=2, maskt=1, height=8),
+        # across it repeats past its size, so it is a lookup of 64 values, whatever it does down
+        case("0 2176", KEY, masks=4, maskt=1, height=8),
+        # of an odd line and so tall it is a lookup; of an even line two rows are shown
+        case("0 4096", KEY, fmt=I, mode=0, maskt=1, width=1, height=257),
+        case("0 2", KEY, fmt=I, mode=0, maskt=1, line=2, width=1, height=257),
+    ]
+
+
 def parts():
     """Where the source is in the companion, and where it ends."""
     return [
@@ -517,17 +567,17 @@ def walk():
 def replay_cases():
     """The lines and the records of all cases; a torn tail is the last."""
     torn = "8 0", replay_record(BLOCK, **USUAL[BLOCK])[:47]
-    lines, records = zip(*kinds(), *limits(), *parts(), *refused(), *ignored(), *walk(), torn)
+    lines, records = zip(*kinds(), *limits(), *repeating(), *parts(), *refused(), *ignored(), *walk(), torn)
     return "".join(line + "\n" for line in lines), b"".join(records)
 
 
 def main():
     samples = Path(__file__).resolve().parent
     crates = samples.parent / "crates"
-    capture = played(Capture(20010), (96, 40, 16, 20, 30, 20, 6))
+    capture = played(Capture(20010), (96, 40, 16, 20, 30, 20, 6, 6))
     (samples / "capture.bin").write_bytes(b"".join(capture.records))
     (crates / "lister/stdin").write_bytes(cases())
-    replay = played(Loads(20011), (32, 20, 8, 10, 10, 10, 3))
+    replay = played(Loads(20011), (32, 20, 8, 10, 10, 10, 3, 3))
     (samples / "replay.bin").write_bytes(b"".join(replay.records))
     (samples / "companion.bin").write_bytes(replay.companion)
     lines, records = replay_cases()

@@ -276,6 +276,12 @@ static void check_answers(void) {
 
     tk_answer answer = tk_key_of(bank, &tile, 0, key);
     CHECK(answer.refusal == 0 && answer.count == 6 && key[16] == 16 && key[30] == 30 && key[19] == 0 && key[4095] == 0);
+    /* The tile clamps. With cms 0 it repeats every two columns, with cmt 0 and a third row every two rows. */
+    tk_tile across = with(tile, 4, 0), down = with(with(tile, 5, 0), 11, 3);
+    answer = tk_key_of(bank, &across, 0, key);
+    CHECK(answer.refusal == 0 && answer.count == 4 && key[17] == 17 && key[29] == 29 && key[18] == 0 && key[30] == 0);
+    answer = tk_key_of(bank, &down, 0, key);
+    CHECK(answer.refusal == 0 && answer.count == 6 && key[18] == 18 && key[30] == 30 && key[32] == 0);
 
     CHECK(tk_palette_nonreplicated_of(bank, lanes) == 0 && lanes[0] == 255 && lanes[31] == 255);
 }
@@ -308,7 +314,7 @@ static void check_load_answers(void) {
     CHECK(answer.refusal == 4 && answer.count == 0 && answer.made_up == 0);
 }
 
-/* The same loads by records, with sources at offsets of the companion; and the key of the tile of check_answers. */
+/* The same loads by records, with sources at offsets of the companion; and keys of two tiles of check_answers. */
 static void check_replay(void) {
     static const uint8_t block[TK_RECORD_BYTES] = {[0] = 0, [3] = 2, [11] = 1, [13] = 2, [19] = 2, [23] = 1, [37] = 8};
     static const uint8_t tile[TK_RECORD_BYTES] = {
@@ -316,6 +322,7 @@ static void check_replay(void) {
     static const uint8_t tlut[TK_RECORD_BYTES] = {
         [0] = 2, [3] = 2, [11] = 1, [13] = 2, [19] = 0, [25] = 2, [27] = 2, [29] = 16, [33] = 2, [37] = 20};
     static const uint8_t key_of_tile[TK_RECORD_BYTES] = {3, 0, 4, 1, 1, 1, 2, 2, 1, 1, 0, 1, 0, 2, 0, 3, 0, 2};
+    static const uint8_t key_of_repeating[TK_RECORD_BYTES] = {3, 0, 4, 1, 1, 1, 0, 2, 1, 1, 0, 1, 0, 2, 0, 3, 0, 2};
     memset(bank, 0, sizeof bank);
     memset(written, 0, sizeof written);
     tk_answer answer = tk_replay_record_of(bank, written, block, sizeof source, source, sizeof source);
@@ -331,6 +338,8 @@ static void check_replay(void) {
     memcpy(before, bank, sizeof bank);
     answer = tk_replay_record_of(bank, written, key_of_tile, 0, NULL, 0);
     CHECK(answer.refusal == 0 && answer.count == 6 && memcmp(before, bank, sizeof bank) == 0);
+    answer = tk_replay_record_of(bank, written, key_of_repeating, 0, NULL, 0);
+    CHECK(answer.refusal == 0 && answer.count == 4 && memcmp(before, bank, sizeof bank) == 0);
 }
 
 /* Eight stores, none of a byte of the source. */

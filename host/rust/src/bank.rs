@@ -37,10 +37,10 @@ pub struct Observed {
     pub trail: Vec<u16>,
 }
 
-/// The bytes of a bank that a picture reads, and no others.
+/// The bytes of a bank that a visible picture reads, and no others. [`Bank::key`] says what is visible.
 #[derive(Clone, Debug, PartialEq, Eq, Hash)]
 pub struct Key {
-    /// The bank with each byte kept that the picture reads, and all others zero.
+    /// The bank with each byte kept that the visible picture reads, and all others zero.
     pub bytes: [u8; BANK_BYTES],
     /// How many bytes were kept, those that are zero among them.
     pub kept: u32,
@@ -240,7 +240,15 @@ impl Bank {
         Ok(map)
     }
 
-    /// The key of the picture that the tile calls for.
+    /// The key of the visible picture, which is what a renderer shows of the picture that the tile calls for.
+    ///
+    /// Of a lookup that is all. Of a plain picture it is the first 2^`masks` columns, where `masks` is not 0, `cms` does not clamp
+    /// (value 2) and 2^`masks` is below `width`: from there on they repeat, mirrored or not. Else it is all columns. Rows likewise, by
+    /// `maskt`, `cmt` and `height`. So a wall that repeats has one key under several widths, whatever the bank holds behind the columns
+    /// that are shown.
+    ///
+    /// For the same tile, mode and lane a key gives the same visible picture as its bank. The whole picture, as [`Bank::sample_tile`]
+    /// makes it, may have other texels outside the visible columns and rows.
     ///
     /// ```
     /// use tulonkasa::{Bank, Tile};
@@ -250,6 +258,10 @@ impl Bank {
     /// let key = bank.key(&tile, 0)?;
     /// assert_eq!(key.kept, 2);
     /// assert_eq!((key.bytes[0], key.bytes[12]), (255, 255));
+    ///
+    /// let narrow = Tile { siz: 2, masks: 4, line: 16, width: 16, height: 16, ..Tile::default() };
+    /// let wide = Tile { width: 64, ..narrow };
+    /// assert_eq!(bank.key(&wide, 0)?, bank.key(&narrow, 0)?);
     /// # Ok::<(), tulonkasa::Refusal>(())
     /// ```
     pub fn key(&self, tile: &Tile, lane: u32) -> Result<Key, Refusal> {

@@ -124,6 +124,128 @@ fn a_palette_picture_reads_index_and_entry() {
     assert_eq!((key.kept, key.bytes[0]), (3, 3));
 }
 
+/// A wall of 64 columns of 16 bits in a bank, which repeats every sixteen.
+fn wall() -> Tile {
+    Tile { siz: 2, masks: 4, line: 16, width: 64, height: 16, ..Tile::default() }
+}
+
+/// Two banks that agree in the wall's first sixteen columns, and nowhere else.
+fn walls() -> [Bank; 2] {
+    [1, 2].map(|leftover| {
+        let mut bank = Bank::from([leftover; 4096]);
+        for row in bank.bytes_mut().chunks_exact_mut(128).take(16) {
+            row[..32].copy_from_slice(&rising(32));
+        }
+        bank
+    })
+}
+
+#[test]
+fn a_wall_has_one_key_under_every_width() {
+    let banks = walls();
+    let key = banks[0].key(&wall(), 0).unwrap();
+    assert_eq!(key.kept, 16 * 32);
+    for row in 0..16 {
+        assert_eq!(key.bytes[128 * row..][..32], rising(32));
+        assert_eq!(key.bytes[128 * row + 32..][..96], [0; 96]);
+    }
+    for width in [16, 17, 32, 64, 128, SIDE_MOST] {
+        // The second is mirrored.
+        for cms in [0, 1] {
+            let tile = Tile { cms, width, ..wall() };
+            for bank in &banks {
+                assert_eq!(bank.key(&tile, 0).as_ref(), Ok(&key), "{tile:?}");
+            }
+        }
+    }
+}
+
+#[test]
+fn a_clamped_wall_does_not_repeat() {
+    let [bank, other] = walls();
+    for cms in [2, 3] {
+        let tile = Tile { cms, ..wall() };
+        let key = bank.key(&tile, 0).unwrap();
+        assert_eq!(key.kept, 16 * 128);
+        assert_eq!(key, bank.key(&Tile { masks: 0, ..tile }, 0).unwrap());
+        assert_ne!(key, other.key(&tile, 0).unwrap());
+    }
+}
+
+#[test]
+fn each_axis_is_cut_by_its_own_mask() {
+    let kept = |cms, cmt, masks, maskt| {
+        let tile = Tile { fmt: 4, siz: 1, cms, cmt, masks, maskt, line: 2, width: 9, height: 11, ..Tile::default() };
+        Bank::new().key(&tile, 0).unwrap().kept
+    };
+    assert_eq!(kept(0, 0, 0, 0), 9 * 11);
+    assert_eq!(kept(0, 0, 2, 0), 4 * 11);
+    assert_eq!(kept(0, 0, 0, 3), 9 * 8);
+    assert_eq!(kept(0, 0, 2, 3), 4 * 8);
+    assert_eq!(kept(1, 1, 2, 3), 4 * 8); // mirrored
+    assert_eq!(kept(2, 0, 2, 3), 9 * 8); // clamped across
+    assert_eq!(kept(0, 3, 2, 3), 4 * 11); // clamped down
+    assert_eq!(kept(3, 2, 2, 3), 9 * 11); // clamped both ways
+}
+
+#[test]
+fn a_tile_that_is_cut_on_no_axis_keeps_its_key() {
+    let [bank, _] = walls();
+    let plain = Tile { fmt: 4, siz: 1, line: 2, width: 16, height: 8, ..Tile::default() };
+    let key = bank.key(&plain, 0).unwrap();
+    assert_eq!(key.kept, 16 * 8);
+    assert_eq!(bank.key(&Tile { masks: 4, maskt: 3, ..plain }, 0), Ok(key)); // masks that equal the size
+    let empty = Tile { cms: 2, masks: 1, width: 0, ..plain };
+    assert_eq!(bank.key(&empty, 0).map(|key| key.kept), Ok(0));
+}
+
+#[test]
+fn a_lookup_keeps_its_key() {
+    let [bank, _] = walls();
+    let i8 = Tile { fmt: 4, siz: 1, ..Tile::default() };
+    // By an odd line, by the side across and by the one down, while an axis repeats inside its size; and the first of an even line.
+    let tall = Tile { maskt: 1, line: 1, width: 1, height: 257, ..i8 };
+    let across = Tile { masks: 5, maskt: 1, line: 2, width: 16, height: 16, ..i8 };
+    let down = Tile { masks: 1, maskt: 5, line: 2, width: 16, height: 16, ..i8 };
+    for tile in [tall, across, down] {
+        let key = bank.key(&tile, 0).unwrap();
+        assert_eq!((key.kept, &key.bytes), (4096, bank.bytes()), "{tile:?}");
+    }
+    assert_eq!(bank.key(&Tile { line: 2, ..tall }, 0).map(|key| key.kept), Ok(2));
+}
+
+#[test]
+fn a_key_shows_the_same_picture() {
+    let mut bank = Bank::new();
+    bank.bytes_mut()[..3].copy_from_slice(&[1, 2, 3]);
+    let tile = Tile { fmt: 4, siz: 1, masks: 1, width: 3, height: 1, ..Tile::default() };
+    let key = bank.key(&tile, 0).unwrap();
+    assert_eq!((key.kept, &key.bytes[..4]), (2, &[1, 2, 0, 0][..]));
+    let key = Bank::from(key.bytes);
+    assert_eq!(key.key(&tile, 0), bank.key(&tile, 0));
+    let visible = Tile { width: 2, ..tile };
+    assert_eq!(key.sample_tile(&visible, 0), bank.sample_tile(&visible, 0));
+    // The plain picture stays whole, and so does its extent; made of the key it may differ. The reach has always been what repeats.
+    assert_eq!(bank.sample_tile(&tile, 0).unwrap(), [1, 1, 1, 1, 2, 2, 2, 2, 3, 3, 3, 3]);
+    assert_eq!(key.sample_tile(&tile, 0).unwrap(), [1, 1, 1, 1, 2, 2, 2, 2, 0, 0, 0, 0]);
+    assert_eq!(tile.sampling().map(|sampling| (sampling.lookup, sampling.width)), Ok((false, 3)));
+    assert_eq!(tile.reach().unwrap().iter().collect::<Vec<_>>(), [0, 1]);
+}
+
+#[test]
+fn a_repeating_palette_picture_keeps_its_entries() {
+    let mut bank = Bank::new();
+    bank.bytes_mut()[..4].copy_from_slice(&[3, 4, 5, 6]);
+    bank.bytes_mut()[2048 + 8 * 3..][..32].copy_from_slice(&rising(32));
+    let tile = Tile { fmt: 2, siz: 1, mode: 2, masks: 1, width: 4, height: 1, ..Tile::default() };
+    let key = bank.key(&tile, 1).unwrap();
+    let mut kept = [0; 4096];
+    for address in [0, 1, 2074, 2075, 2082, 2083] {
+        kept[address] = bank.bytes()[address];
+    }
+    assert_eq!((key.kept, key.bytes), (6, kept));
+}
+
 #[test]
 fn a_lookup_wraps_inside_the_word() {
     let tile = Tile { siz: 2, ..Tile::default() };
@@ -218,6 +340,10 @@ fn a_replay_carries_the_bank_from_record_to_record() {
     assert_eq!(bank.written().iter().collect::<Vec<_>>(), (0..8).collect::<Vec<_>>());
     let loaded = bank.clone();
     assert_eq!(bank.replay_record(&key_record(8), 12, &[]), Ok(8 + 6)); // of entries 3, 4 and 5
+    assert_eq!(bank, loaded);
+    let mut repeating = key_record(8);
+    repeating[8] = 1; // masks
+    assert_eq!(bank.replay_record(&repeating, 12, &[]), Ok(2 + 4)); // two are shown, of entries 3 and 4
     assert_eq!(bank, loaded);
     assert_eq!(bank.replay_record(&block_record(2, 3), 12, &companion[2..]), Ok(8)); // no more than its stated part
     assert_eq!(bank.bytes()[..9], [3, 4, 3, 0, 0, 0, 0, 0, 0]);

@@ -78,6 +78,14 @@ impl Record {
         }
     }
 
+    /// Sets the tile and its mode.
+    pub fn set_tile(&mut self, tile: &Tile) {
+        self.set(&[(place::FMT, tile.fmt), (place::SIZ, tile.siz), (place::PALETTE, tile.palette)]);
+        self.set(&[(place::MODE, tile.mode), (place::CMS, tile.cms), (place::CMT, tile.cmt)]);
+        self.set(&[(place::MASKS, tile.masks), (place::MASKT, tile.maskt), (place::LINE, tile.line)]);
+        self.set(&[(place::TMEM_ADDR, tile.tmem_addr), (place::WIDTH, tile.width), (place::HEIGHT, tile.height)]);
+    }
+
     /// The load's own numbers; none if it is no load.
     pub fn load(&self) -> Option<Load> {
         let number = |place| self.get(place) as usize;

@@ -141,12 +141,12 @@ impl Random {
         self.fill(&mut record.bytes);
         let kind = self.pick(&[BLOCK, TILE, TLUT, KEY]);
         let tile = self.tile(1 << 10);
-        record.set(&[(KIND, kind), (FMT, tile.fmt), (SIZ, tile.siz), (LINE, tile.line), (TMEM_ADDR, tile.tmem_addr)]);
+        record.set(&[(KIND, kind)]);
         if kind == KEY {
-            record.set(&[(LANE, self.to(3)), (PALETTE, tile.palette), (MODE, tile.mode)]);
-            record.set(&[(CMS, tile.cms), (CMT, tile.cmt), (MASKS, tile.masks), (MASKT, tile.maskt)]);
-            record.set(&[(WIDTH, tile.width), (HEIGHT, tile.height)]);
+            record.set(&[(LANE, self.to(3))]);
+            record.set_tile(&tile);
         } else {
+            record.set(&[(FMT, tile.fmt), (SIZ, tile.siz), (LINE, tile.line), (TMEM_ADDR, tile.tmem_addr)]);
             let (offset, length) = self.source(companion_length);
             record.set(&[(IMAGE_SIZ, self.to(3)), (STRIDE, self.near(65535)), (OFFSET, offset), (LENGTH, length)]);
             record.set(&match kind {

@@ -1,11 +1,12 @@
-//! Cases by structure: every pair, mode and lane with the limits of the sizes, the limits of every load, small loads from sources of every
-//! length.
-//! Runs of records: the limits of every number, several faults at a time, and sources at the companion's end.
+//! Cases by structure: every pair, mode and lane with the limits of the sizes, tiles that repeat, the limits of every load, small loads
+//! from sources of every length.
+//! Runs of records: the limits of every number, several faults at a time, keys of tiles that repeat, and sources at the companion's end.
 use crate::capture::place::*;
 use crate::capture::{By, Companion, Record, Run, BLOCK, KEY, RECORD_BYTES, TILE, TLUT};
 use crate::case::{Call, Case, Fill};
 use original::calls::Picture;
-use tulonkasa::Tile;
+use std::collections::BTreeSet;
+use tulonkasa::{Tile, SIDE_MOST};
 
 /// Width, height, line, word address.
 const SHAPES: [[u32; 4]; 14] = [
@@ -31,6 +32,28 @@ const LARGEST: [[u32; 3]; 4] = [[0, 3, 0], [0, 2, 1], [4, 0, 0], [2, 1, 2]];
 /// cms, cmt, masks, maskt: no repeating, repeating inside the size, at it, past it, and past it but clamped.
 const REPEATS: [[u32; 4]; 7] =
     [[0, 0, 0, 0], [0, 0, 1, 1], [1, 1, 6, 6], [0, 0, 15, 0], [0, 1, 0, 15], [2, 3, 15, 15], [2, 0, 5, 0]];
+
+/// Format, size and mode of tiles that repeat: each way to read a texel, and one that always calls for a lookup.
+const REPEATING: [[u32; 3]; 9] =
+    [[0, 2, 0], [0, 3, 1], [2, 2, 0], [3, 1, 1], [4, 0, 0], [4, 1, 0], [2, 0, 2], [2, 1, 3], [1, 2, 2]];
+
+/// Width, height, line, masks, maskt. One wall of sixteen columns under several widths; axes inside their sizes; one past its size,
+/// which calls for a lookup, beside one inside; and tall ones, for which an odd line does, beside an even one.
+const WALLS: [[u32; 5]; 13] = [
+    [16, 16, 4, 4, 0],
+    [32, 16, 4, 4, 0],
+    [64, 16, 4, 4, 0],
+    [128, 16, 4, 4, 0],
+    [64, 64, 4, 4, 4],
+    [9, 11, 3, 2, 3],
+    [3, 129, 1, 0, 7],
+    [20, 9, 4, 5, 1],
+    [9, 20, 4, 1, 5],
+    [1, 257, 1, 0, 1],
+    [1, 257, 2, 0, 1],
+    [257, 300, 3, 8, 8],
+    [257, 300, 2, 8, 8],
+];
 
 /// Small loads by their own numbers: a block of even and odd rows, and one of no words; tiles whose rows are the same, share bytes,
 /// follow each other and stand apart; palettes of one row, which go step by step or as entries, and of several.
@@ -61,6 +84,7 @@ pub const PICTURES: [Call; 4] = [
 pub fn cases() -> Vec<Case> {
     let mut cases = Vec::new();
     tiles(&mut cases);
+    repeating_tiles(&mut cases);
     buffers(&mut cases);
     loads(&mut cases);
     cut_sources(&mut cases);
@@ -96,6 +120,49 @@ fn tiles(cases: &mut Vec<Case>) {
         let tile = Tile { fmt, siz, mode, width: 1024, height: 1024, line: 257, tmem_addr: 77, ..Tile::default() };
         cases.extend(PICTURES[..2].iter().map(|&call| Case::new(call, tile)));
     }
+}
+
+/// Tiles that repeat. Their keys are cut to what is visible; flags, reaches and pictures are as ever, and are compared as well.
+fn repeating_tiles(cases: &mut Vec<Case>) {
+    for texel in REPEATING {
+        for tile in repeating(texel) {
+            let of = |call| Case { lane: 2, ..Case::new(call, tile) };
+            cases.extend([Call::Sampling, Call::Reach, Call::Key].map(of));
+            if tile.width * tile.height <= 4096 {
+                cases.push(of(PICTURES[1]));
+            }
+        }
+    }
+}
+
+/// Tiles of a format, size and mode, in every way to clamp and mirror: every mask with sizes about what it repeats, across, down and
+/// both; and the walls.
+fn repeating([fmt, siz, mode]: [u32; 3]) -> Vec<Tile> {
+    let small = Tile { fmt, siz, mode, palette: 9, line: 2, tmem_addr: 300, width: 3, height: 5, ..Tile::default() };
+    let mut tiles = Vec::new();
+    for mask in 0..16 {
+        for size in sizes(mask) {
+            for cm in 0..4 {
+                let across = Tile { cms: cm, masks: mask, width: size, ..small };
+                let down = Tile { cmt: cm, maskt: mask, height: size, ..small };
+                let both = Tile { cms: cm, masks: mask, width: size, ..down };
+                tiles.extend([across, down, both]);
+            }
+        }
+    }
+    for [width, height, line, masks, maskt] in WALLS {
+        for cms in 0..4 {
+            let wall = Tile { cms, masks, maskt, line, width, height, ..small };
+            tiles.extend((0..4).map(|cmt| Tile { cmt, ..wall }));
+        }
+    }
+    tiles
+}
+
+/// Sizes about 2^mask: below, equal, one above, and several times, each up to the most; and none and one.
+fn sizes(mask: u32) -> BTreeSet<u32> {
+    let period = 1 << mask;
+    [0, 1, period - 1, period, period + 1, 3 * period + 1].map(|size| size.min(SIDE_MOST)).into()
 }
 
 /// Picture and trail: one byte short, exactly full, and longer by an odd and an even number.
@@ -243,6 +310,7 @@ pub fn runs(by: By) -> Vec<Run> {
         runs.push(run(limits(kind), 1000, 47));
         runs.push(run(faults(kind), 1000, 24));
     }
+    runs.push(run(repeating_keys(), 5000, 0));
     runs.extend(ENDS.map(|end| run(sources(end), end, 0)));
     runs
 }
@@ -267,6 +335,17 @@ fn faults(kind: u32) -> Vec<Record> {
     let choices = 0..1 << FAULTS.len();
     let chosen = |choice: u32| (0..FAULTS.len()).filter(move |i| choice >> i & 1 == 1);
     choices.map(|choice| plain(kind, &chosen(choice).flat_map(|i| FAULTS[i]).copied().collect::<Vec<_>>())).collect()
+}
+
+/// A bank full of bytes, and then keys of tiles that repeat.
+fn repeating_keys() -> Vec<Record> {
+    let load = plain(BLOCK, &[(WORDS, 512), (LENGTH, 4096)]);
+    let keys = repeating([2, 1, 2]).into_iter().map(|tile| {
+        let mut record = plain(KEY, &[]);
+        record.set_tile(&tile);
+        record
+    });
+    std::iter::once(load).chain(keys).collect()
 }
 
 /// Sources that end in a companion of a length, at its end, one byte past it, and far past it.

@@ -168,12 +168,16 @@ pub fn picture_counted(
     Some((picture, reads))
 }
 
-/// The key, which the original has no call for: the bytes that the picture reads which the flag calls for, and how many they
-/// are.
+/// The key, which the original has no call for: the bytes that the visible picture reads, and how many they are. The flag is the
+/// whole tile's. A lookup is whole; of a plain picture the original makes what is shown.
 pub fn key(bank: &Bytes, tile: &TileDescriptor, mode: u8, lane: usize) -> Option<(Bytes, u32)> {
-    let which = if sampling(tile, mode).0 == 1 { Picture::Lookup } else { Picture::Plain };
     let mut read = [false; 4096];
-    decode(bank, tile, mode, lane, which, |address| read[address] = true)?;
+    let reads = |address| read[address] = true;
+    if sampling(tile, mode).0 == 1 {
+        decode(bank, tile, mode, lane, Picture::Lookup, reads)?;
+    } else {
+        decode(bank, &visible(tile), mode, lane, Picture::Plain, reads)?;
+    }
     let mut key = [0; 4096];
     let mut kept = 0;
     for (address, _) in read.iter().enumerate().filter(|(_, read)| **read) {
@@ -181,6 +185,24 @@ pub fn key(bank: &Bytes, tile: &TileDescriptor, mode: u8, lane: usize) -> Option
         kept += 1;
     }
     Some((key, kept))
+}
+
+/// The tile with its sides cut to what a renderer shows of them, as document 02's item 4 says. The original has no such cut.
+fn visible(tile: &TileDescriptor) -> TileDescriptor {
+    TileDescriptor {
+        width: visible_side(tile.cms, tile.masks, tile.width),
+        height: visible_side(tile.cmt, tile.maskt, tile.height),
+        ..tile.clone()
+    }
+}
+
+/// An axis repeats its first 2^mask columns or rows where its mask is not 0 and its clamp bit is clear. Those past them are cut.
+fn visible_side(cm: u8, mask: u8, size: u16) -> u16 {
+    if mask != 0 && cm & 2 == 0 {
+        size.min(1 << mask)
+    } else {
+        size
+    }
 }
 
 fn decode(

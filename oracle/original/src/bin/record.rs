@@ -208,6 +208,31 @@ const SHAPES: [[u16; 4]; 12] = [
 /// cms, cmt, masks, maskt.
 const REPEATS: [[u8; 4]; 6] = [[0, 0, 0, 0], [0, 0, 1, 1], [1, 1, 4, 3], [0, 1, 15, 0], [0, 0, 0, 15], [2, 3, 15, 15]];
 
+/// Format, size and mode of the keys of tiles that repeat.
+const REPEATING: [[u8; 3]; 6] = [[4, 1, 0], [0, 2, 0], [0, 3, 1], [4, 0, 1], [2, 1, 2], [2, 0, 3]];
+
+/// cms, cmt, masks and maskt; width, height, line. One wall under several widths; an axis alone, and both; mirrored, clamped; at the
+/// size, one above, no size; tall ones; and lookups by one axis or by an odd line, where an axis repeats inside its size.
+const WALLS: [([u8; 4], [u16; 3]); 17] = [
+    ([0, 0, 4, 0], [16, 3, 4]),
+    ([0, 0, 4, 0], [32, 3, 4]),
+    ([0, 0, 4, 0], [64, 3, 4]),
+    ([0, 0, 4, 0], [128, 3, 4]),
+    ([0, 0, 0, 4], [3, 64, 2]),
+    ([0, 0, 4, 5], [64, 64, 4]),
+    ([1, 1, 2, 3], [9, 11, 3]),
+    ([2, 0, 2, 3], [9, 11, 3]),
+    ([0, 3, 2, 3], [9, 11, 3]),
+    ([3, 2, 2, 3], [9, 11, 3]),
+    ([0, 0, 3, 2], [8, 4, 2]),
+    ([1, 0, 3, 2], [9, 5, 2]),
+    ([0, 0, 1, 1], [0, 9, 2]),
+    ([0, 0, 1, 6], [3, 256, 1]),
+    ([0, 0, 5, 1], [20, 9, 4]),
+    ([0, 0, 1, 5], [9, 20, 4]),
+    ([0, 0, 0, 1], [1, 257, 1]),
+];
+
 /// Small loads: kind, image size, the load's own numbers, and how many source bytes it asks for. A block of even and odd rows;
 /// tiles whose rows share bytes, follow each other and stand apart; palettes step by step; and by rows, one and two.
 const SMALL_LOADS: [(u8, u8, [u16; 3], u32); 9] = [
@@ -270,6 +295,18 @@ impl List {
                         self.push(if pictures { input.with_lengths(surplus) } else { input });
                     }
                 }
+            }
+        }
+    }
+
+    /// Keys of tiles that repeat, in every lane by turns.
+    fn repeating(&mut self) {
+        for [fmt, siz, mode] in REPEATING {
+            for ([cms, cmt, masks, maskt], [width, height, line]) in WALLS {
+                let (lane, tmem_addr) = ((self.count() % 4) as u8, 300);
+                let tile = TileDescriptor { cms, cmt, masks, maskt, line, width, height, tmem_addr, ..Default::default() };
+                let tile = TileDescriptor { fmt, siz, palette: 9, ..tile };
+                self.push(Input { kind: KIND_KEY, lane, tile, mode, ..Input::default() });
             }
         }
     }
@@ -354,6 +391,7 @@ fn main() -> std::io::Result<()> {
     list.loads();
     list.lanes();
     list.cut_sources();
+    list.repeating();
 
     let reach = Reach::default();
     let title = "tulonkasa answers, by oracle/record from fast3d-rs dbd8d8c9d8\n";
