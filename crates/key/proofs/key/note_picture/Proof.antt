@@ -1,6 +1,7 @@
 -- `key::key::note_picture` notes by the whole tile's flag: a lookup, or the first 256 rows of what is visible, which read all of that.
 -- Assumes nothing.
 use Rattle.key.proofs.Period.{lookup-notes, plain-notes}
+use Rattle.rdp.specs.View.{tileOf}
 use Rattle.rules.proofs.Allowed.{allowed}
 use Rattle.rules.proofs.Visible.{visible-allowed}
 use lib.ListN.{length, length-replicate}
@@ -28,8 +29,10 @@ same-length c = search needs
 returns : tie.Need-returns
 returns c =
     let i = c .before .before .before .before in
-    lookup-notes _ _ _ _ _ _ (i .before .before .before .before .pre .1 .0) (sym (i .before .from-tile .ensures .0) ∙ i .if1 .taken)
-    (c .before .before .note-lookup .ensures)
+    let s = i .before .before .before .before in
+    let a = s .args in
+    let flagged = sym (i .before .from-tile .ensures .0) ∙ i .if1 .taken in
+    lookup-notes (tileOf (a .tile)) (a .tlut) (a .lane) _ _ _ (s .pre .1 .0) flagged (c .before .before .note-lookup .ensures)
 
 visible-requires : tie.Need-visible-requires
 visible-requires c κs = search needs
@@ -48,8 +51,10 @@ returns-2 : tie.Need-returns-2
 returns-2 c =
     let v = c .before .before .before .before in
     let i = v .before in
-    plain-notes _ _ _ _ _ _ (i .before .before .before .before .pre .1 .0) _ (v .visible .ensures)
-    (sym (i .before .from-tile .ensures .0) ∙ i .if1 .left)
+    let s = i .before .before .before .before in
+    let a = s .args in
+    let flagged = sym (i .before .from-tile .ensures .0) ∙ i .if1 .left in
+    plain-notes (tileOf (a .tile)) (a .tlut) (a .lane) _ _ _ (s .pre .1 .0) _ (v .visible .ensures) flagged
     (c .before .before .note-plain .ensures)
 
 pub note-picture-spec : {M : Type 1} → statement M
