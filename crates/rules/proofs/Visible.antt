@@ -7,7 +7,7 @@ use Prim.Native.Nat.{ℕ, _^_, _≤_}
 use native.Mathlib.Omega.{arith}
 use lib.Dec.{ltb}
 use borrow.Author.Tests.{ltb-true, ltb-false, le-ltb}
-use Rattle.rules.specs.Tile.{Tile, sideLimit, loadFieldsOutside, tileOutside}
+use Rattle.rules.specs.Tile.{Tile, sized, sideLimit, loadFieldsOutside, tileOutside}
 use Rattle.rules.specs.Sampling.{repeats, visibleSide, visible, flag}
 use Rattle.rules.specs.Picture.{lookup, picture, visiblePicture}
 use Rattle.rules.specs.Refusal.{first}
@@ -54,19 +54,7 @@ uncut-side cm mask size e = rw e
 pub uncut : (t : Tile) → (repeats (t .cms) (t .masks) && ltb (2 ^ t .masks) (t .width)) ≡ false
     → (repeats (t .cmt) (t .maskt) && ltb (2 ^ t .maskt) (t .height)) ≡ false → visible t ≡ t
 uncut t w h =
-    λ i. record {
-      fmt = t .fmt;
-      siz = t .siz;
-      palette = t .palette;
-      cms = t .cms;
-      cmt = t .cmt;
-      masks = t .masks;
-      maskt = t .maskt;
-      line = t .line;
-      tmem-addr = t .tmem-addr;
-      width = uncut-side (t .cms) (t .masks) (t .width) w i;
-      height = uncut-side (t .cmt) (t .maskt) (t .height) h i;
-    }
+    λ i. sized t (uncut-side (t .cms) (t .masks) (t .width) w i) (uncut-side (t .cmt) (t .maskt) (t .height) h i)
 
 -- "Other tiles keep their keys, and so does every lookup picture": what is visible of them is the whole picture
 pub lookup-whole : (t : Tile) (mode lane : ℕ) → flag t mode ≡ true → visiblePicture t mode lane ≡ picture t mode lane

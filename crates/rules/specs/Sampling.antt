@@ -4,7 +4,7 @@ use Prim.Native.Nat.{ℕ, _*_, _^_, max}
 use lib.Bits.{bitAnd}
 use lib.Dec.{eqb, ltb}
 use Rattle.rules.specs.Base.{odd}
-use Rattle.rules.specs.Tile.{Tile}
+use Rattle.rules.specs.Tile.{Tile, sized}
 use Rattle.rules.specs.Texdec.{tlut}
 
 -- "mask is not 0, the clamp bit (value 2) of cms/cmt is clear": the axis repeats every 2^mask
@@ -40,20 +40,7 @@ visibleSide cm mask size = cond (repeats cm mask && ltb (2 ^ mask) size) (2 ^ ma
 
 -- the tile with its sides cut to what is visible
 abbrev pub visible : Tile → Tile
-visible t =
-    record {
-      fmt = t .fmt;
-      siz = t .siz;
-      palette = t .palette;
-      cms = t .cms;
-      cmt = t .cmt;
-      masks = t .masks;
-      maskt = t .maskt;
-      line = t .line;
-      tmem-addr = t .tmem-addr;
-      width = visibleSide (t .cms) (t .masks) (t .width);
-      height = visibleSide (t .cmt) (t .maskt) (t .height);
-    }
+visible t = sized t (visibleSide (t .cms) (t .masks) (t .width)) (visibleSide (t .cmt) (t .maskt) (t .height))
 
 -- "The allocation extent is 4,096 by 4 for flag 1, else max(width,1) by max(height,1)."
 unfoldable pub extentWidth : Tile → ℕ → ℕ

@@ -66,6 +66,11 @@ tileFrom fmt siz palette cms cmt masks maskt line tmem-addr width height =
       height = height;
     }
 
+-- the tile with other sides
+abbrev pub sized : Tile → ℕ → ℕ → Tile
+sized t width height =
+    tileFrom (t .fmt) (t .siz) (t .palette) (t .cms) (t .cmt) (t .masks) (t .maskt) (t .line) (t .tmem-addr) width height
+
 -- a tile of the four numbers that a load takes; the others are 0
 abbrev pub loadTileFrom : ℕ → ℕ → ℕ → ℕ → Tile
 loadTileFrom fmt siz line tmem-addr = tileFrom fmt siz 0 0 0 0 0 line tmem-addr 0 0

@@ -6,7 +6,7 @@ use Prim.Native.Nat.{ℕ, _+_}
 use lib.ListN.{set, replicate, take, drop}
 use Rattle.rules.specs.Base.{one, tab, concat, all, same}
 use Rattle.rules.specs.Reading.{trail}
-use Rattle.rules.specs.Tile.{Tile, bankSize, mapSize}
+use Rattle.rules.specs.Tile.{Tile, tileFrom, bankSize, mapSize}
 use Rattle.rules.specs.Texdec.{rgba16Texel, ia4Texel, ia8Texel}
 use Rattle.rules.specs.Sampling.{flag}
 use Rattle.rules.specs.Load.{Store, loadTile, stored, blockStores, tlutStores, madeUp}
@@ -63,24 +63,14 @@ masked cms masks =
       height = 0;
     }
 
--- Document 02's item 4. A wall of I8, four columns and a row, that repeats after two columns, with cms.
+-- Document 02's item 4. Walls of I8 that repeat after two texels: four columns and a row, with cms, and a column of four rows, with cmt.
 abbrev wall : ℕ → Tile
-wall cms =
-    record {
-      fmt = 4;
-      siz = 1;
-      palette = 0;
-      cms = cms;
-      cmt = 0;
-      masks = 1;
-      maskt = 0;
-      line = 1;
-      tmem-addr = 0;
-      width = 4;
-      height = 1;
-    }
+wall cms = tileFrom 4 1 0 cms 0 1 0 1 0 4 1
 
--- a record of that wall, with a zero bank
+abbrev column : ℕ → Tile
+column cmt = tileFrom 4 1 0 0 cmt 0 1 1 0 1 4
+
+-- a record of the wall, with a zero bank
 abbrev listedWall : List ℕ
 listedWall = 4 ∷ 1 ∷ 0 ∷ 0 ∷ 0 ∷ 0 ∷ 1 ∷ 0 ∷ 0 ∷ 1 ∷ 0 ∷ 0 ∷ 0 ∷ 4 ∷ 0 ∷ 1 ∷ fresh
 
@@ -196,6 +186,7 @@ table =
     -- a wall keeps what is shown of it, mirrored too; clamped it does not repeat
     ∷ (bytesAt 0 4 (key (wall 0) 0 0 (replicate bankSize 7)) gives 7 ∷ 7 ∷ 0 ∷ 0 ∷ [])
     ∷ (map (λ cms. keptCount (wall cms) 0 0 fresh) (0 ∷ 1 ∷ 2 ∷ 3 ∷ []) gives 2 ∷ 2 ∷ 4 ∷ 4 ∷ [])
+    ∷ (map (λ cmt. keptCount (column cmt) 0 0 fresh) (0 ∷ 1 ∷ 2 ∷ 3 ∷ []) gives 2 ∷ 2 ∷ 4 ∷ 4 ∷ [])
     -- the fourth slip: "Lookup rel 3 on an odd row, base 0, (0,2): bytes 7 and 0, not 7 and 8"
     ∷ (trail (texel (tile 0 2 0 0 0 0) 0 0 true 3 0) fresh gives 7 ∷ 0 ∷ [])
     -- the lister's example prints "0 0 2 2"
