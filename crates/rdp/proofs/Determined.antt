@@ -12,11 +12,12 @@ use Rattle.rdp.specs.declared.tile.TileDescriptor.{TileDescriptor}
 use Rattle.rdp.specs.declared.answer.Answer.{Answer}
 use Rattle.rdp.specs.declared.answer.LoadAnswer.{LoadAnswer}
 use Rattle.rdp.specs.declared.answer.SizeAnswer.{SizeAnswer}
+use Rattle.rdp.specs.declared.answer.SplitAnswer.{SplitAnswer}
 use Rattle.rdp.specs.declared.answer.YesAnswer.{YesAnswer}
 use Rattle.rdp.specs.declared.answer.SamplingAnswer.{SamplingAnswer}
 use Rattle.rdp.specs.declared.answer.TextAnswer.{TextAnswer}
 use Rattle.rdp.specs.declared.answer.RunAnswer.{RunAnswer}
-use Rattle.rdp.specs.View.{answered, loadAnswered, sizeAnswered, yesAnswered, samplingAnswered, textAnswered, runAnswered}
+use Rattle.rdp.specs.View.{answered, loadAnswered, sizeAnswered, splitAnswered, yesAnswered, samplingAnswered, textAnswered, runAnswered}
 use Rattle.rdp.specs.View.{refusalAnswered, tileOf}
 
 -- number k of an outcome
@@ -43,6 +44,13 @@ unfolding number
 size-determined o r s l m p q =
     let e : sizeAnswered r l ≡ sizeAnswered s m = determined p q in
     ((λ i. record { refusal = e i .refusal; width = number 0 (e i); height = number 1 (e i) }), ap (λ o. o .buffers) e)
+
+pub split-determined : (o : Outcome) (r s : SplitAnswer) (l m : List (List ℕ)) → splitAnswered r l ≡ o → splitAnswered s m ≡ o
+    → (r ≡ s) × (l ≡ m)
+unfolding number
+split-determined o r s l m p q =
+    let e : splitAnswered r l ≡ splitAnswered s m = determined p q in
+    ((λ i. record { refusal = e i .refusal; tuning = number 0 (e i); «held_out» = number 1 (e i) }), ap (λ o. o .buffers) e)
 
 pub yes-determined : (o : Outcome) (r s : YesAnswer) → yesAnswered r ≡ o → yesAnswered s ≡ o → r ≡ s
 unfolding number

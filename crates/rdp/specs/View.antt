@@ -7,6 +7,7 @@ use Rattle.rdp.specs.declared.tile.TileDescriptor.{TileDescriptor}
 use Rattle.rdp.specs.declared.answer.Answer.{Answer}
 use Rattle.rdp.specs.declared.answer.LoadAnswer.{LoadAnswer}
 use Rattle.rdp.specs.declared.answer.SizeAnswer.{SizeAnswer}
+use Rattle.rdp.specs.declared.answer.SplitAnswer.{SplitAnswer}
 use Rattle.rdp.specs.declared.answer.YesAnswer.{YesAnswer}
 use Rattle.rdp.specs.declared.answer.SamplingAnswer.{SamplingAnswer}
 use Rattle.rdp.specs.declared.answer.TextAnswer.{TextAnswer}
@@ -38,6 +39,9 @@ loadAnswered r left = record { refusal = r .refusal; numbers = r .count ∷ r .�
 
 abbrev pub sizeAnswered : SizeAnswer → List (List ℕ) → Outcome
 sizeAnswered r left = record { refusal = r .refusal; numbers = r .width ∷ r .height ∷ []; buffers = left }
+
+abbrev pub splitAnswered : SplitAnswer → List (List ℕ) → Outcome
+splitAnswered r left = record { refusal = r .refusal; numbers = r .tuning ∷ r .«held_out» ∷ []; buffers = left }
 
 abbrev pub yesAnswered : YesAnswer → Outcome
 yesAnswered r = record { refusal = r .refusal; numbers = r .yes ∷ []; buffers = [] }

@@ -24,6 +24,14 @@ pub struct SizeAnswer {
     pub height: u32,
 }
 
+// How many entries are on each side.
+#[repr(C)]
+pub struct SplitAnswer {
+    pub refusal: u32,
+    pub tuning: u32,
+    pub held_out: u32,
+}
+
 // A yes (1) or a no (0).
 #[repr(C)]
 pub struct YesAnswer {

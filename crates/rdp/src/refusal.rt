@@ -47,6 +47,12 @@ pub const TUPLES: u32 = 14;
 // A file has fewer texel bytes than its header calls for.
 pub const TEXELS: u32 = 15;
 
+// More entries are stated than one split takes.
+pub const COUNT: u32 = 16;
+
+// A split's entry buffer is not 4,117 bytes an entry, or its side buffer is not one.
+pub const ENTRIES: u32 = 17;
+
 // The refusal's number if its test fails, else what the tests after it say.
 pub fn refuse(number: u32, fails: bool, rest: u32) -> u32
     ensures { λ r. ⌜ r ≡ cond fails number rest ⌝ }

@@ -23,3 +23,5 @@ pub mod Replay
 pub mod ReplayPieces
 pub mod Worked
 pub mod PamWorked
+pub mod Splits
+pub mod SplitWorked

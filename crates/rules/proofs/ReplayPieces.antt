@@ -8,7 +8,7 @@ use native.Mathlib.Nat.{add-zero}
 use native.Mathlib.Decide.{decLt}
 use lib.Dec.{eqb, ltb}
 use lib.ListN.{length, take, drop, length-append, take-append-drop, drop-of-length-le}
-use lib.Seq.{length-take-le, take-take, drop-drop}
+use lib.Seq.{length-take-le, drop-drop}
 use borrow.Author.Tests.{ltb-false, not-true}
 use Rattle.rules.specs.Base.{recordOf}
 use Rattle.rules.specs.Load.{stored, written}
@@ -17,7 +17,7 @@ use Rattle.rules.specs.Replay.{replaySize, offsetIn, sizeIn, asksKey, st
 use Rattle.rules.specs.Replay.{Carried, countOf, left, outcome, partOf, inFile, lineIn, onward, replayed, lines, texts}
 use Rattle.rules.specs.Replay.{recordCount, firstRecords, recordsIn, Piece, atHand, partIn, inPiece, ready}
 use Rattle.rules.proofs.Ranges.{both}
-use Rattle.rules.proofs.Records.{records-append}
+use Rattle.rules.proofs.Records.{take-drop-take, records-append}
 use Rattle.rules.proofs.Replay.{replayed-append, lines-append, texts-append}
 use Rattle.rules.proofs.Tables.{length-tab, tab-none, take-tab}
 
@@ -41,13 +41,6 @@ unread end src other r m h = go (first (recordTests end r)) (asksKey r) h
     go zero true e = refl
     go zero false e = absurd (true≢false e)
     go (suc n) k e = refl
-
--- a part of a piece is that part of the whole
-take-drop-take : (b n a : ℕ) (l : List ℕ) → b + a ≤ n → take a (drop b (take n l)) ≡ take a (drop b l)
-take-drop-take zero n a l h = take-take a n l (omega arith)
-take-drop-take (suc b) zero a l h = absurd (omega arith)
-take-drop-take (suc b) (suc n) a [] h = refl
-take-drop-take (suc b) (suc n) a (x ∷ l) h = take-drop-take b n a l (omega arith)
 
 piece-part : (file : List ℕ) (n s o size : ℕ) → s ≤ o → o + size ≤ s + n
     → take size (drop (o - s) (take n (drop s file))) ≡ take size (drop o file)

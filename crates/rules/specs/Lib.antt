@@ -15,3 +15,5 @@ pub mod Replay
 pub mod Worked
 pub mod Pam
 pub mod PamWorked
+pub mod Split
+pub mod SplitWorked

@@ -2,16 +2,10 @@
 use mathlib.Core.List.{List, [], _∷_, _++_}
 use Prim.Native.Nat.{ℕ, _+_, _*_}
 use lib.ListN.{replicate, take}
-use Rattle.rules.specs.Base.{concat}
 use Rattle.rules.specs.Tile.{sideLimit}
-use Rattle.rules.specs.Refusal.{Outcome}
 use Rattle.rules.specs.Lister.{decimal}
-use Rattle.rules.specs.Worked.{Case, _gives_}
+use Rattle.rules.specs.Worked.{Case, _gives_, answer}
 use Rattle.rules.specs.Pam.{text, pamFile, pamWriteCall, pamReadCall}
-
--- refusal, numbers, and what is left in the lent buffer
-abbrev answer : Outcome → List ℕ
-answer o = o .refusal ∷ (o .numbers ++ concat (o .buffers))
 
 -- a file that is taken, with a picture buffer of just the bytes of its texels
 abbrev taken : ℕ → ℕ → List ℕ → List ℕ → Case

@@ -10,6 +10,7 @@ use Rattle.rules.specs.Tile.{Tile, tileFrom, bankSize, mapSize}
 use Rattle.rules.specs.Texdec.{rgba16Texel, ia4Texel, ia8Texel}
 use Rattle.rules.specs.Sampling.{flag}
 use Rattle.rules.specs.Load.{Store, loadTile, stored, blockStores, tlutStores, madeUp}
+use Rattle.rules.specs.Refusal.{Outcome}
 use Rattle.rules.specs.Calls.{blockCall}
 use Rattle.rules.specs.Picture.{picture, texel}
 use Rattle.rules.specs.Key.{key, keptCount}
@@ -24,6 +25,10 @@ pub record Case : Type 0 where
 infix 20 _gives_
 abbrev pub _gives_ : List ℕ → List ℕ → Case
 a gives b = record { found = a; expected = b }
+
+-- refusal, numbers, and what is left in the lent buffers
+abbrev pub answer : Outcome → List ℕ
+answer o = o .refusal ∷ (o .numbers ++ concat (o .buffers))
 
 -- a fresh bank
 abbrev pub fresh : List ℕ

@@ -7,4 +7,5 @@ pub mod maps;
 pub mod pictures;
 pub mod replay;
 pub mod sampling;
+pub mod splits;
 mod tile;
