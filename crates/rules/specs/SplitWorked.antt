@@ -14,7 +14,7 @@ sidesOf l = sides (λ i. getD l i 0 ∷ []) (length l)
 abbrev entry : ℕ → ℕ → List ℕ
 entry n b = 0 ∷ 0 ∷ 0 ∷ n ∷ (replicate 4112 0 ++ (b ∷ []))
 
--- splitting entries with these last bytes, with no two capture numbers the same, and a side buffer of nines
+-- splitting entries with these last bytes, and a side buffer of nines
 abbrev splitting : List ℕ → List ℕ
 splitting l = answer (splitCall (length l) (concat (map (λ b. entry b b) l)) (replicate (length l) 9))
 
@@ -24,8 +24,8 @@ splitTable =
     (sidesOf (1 ∷ 2 ∷ 3 ∷ 4 ∷ 5 ∷ 6 ∷ 7 ∷ 8 ∷ 9 ∷ 10 ∷ 11 ∷ []) gives 0 ∷ 0 ∷ 0 ∷ 0 ∷ 1 ∷ 0 ∷ 0 ∷ 0 ∷ 0 ∷ 1 ∷ 0 ∷ [])
     -- an entry that joins a group takes no turn, and has the side of the group's first
     ∷ (sidesOf (1 ∷ 1 ∷ 2 ∷ 1 ∷ 3 ∷ 4 ∷ 2 ∷ 5 ∷ 5 ∷ 1 ∷ 6 ∷ 5 ∷ []) gives 0 ∷ 0 ∷ 0 ∷ 0 ∷ 0 ∷ 0 ∷ 0 ∷ 1 ∷ 1 ∷ 0 ∷ 0 ∷ 1 ∷ [])
-    -- bodies that differ in their last byte, and the totals
-    ∷ (splitting (1 ∷ 2 ∷ 3 ∷ 4 ∷ 5 ∷ []) gives 0 ∷ 4 ∷ 1 ∷ 0 ∷ 0 ∷ 0 ∷ 0 ∷ 1 ∷ [])
+    -- bodies that differ in their last byte, and the totals, of entries and not of groups
+    ∷ (splitting (1 ∷ 2 ∷ 2 ∷ 3 ∷ 4 ∷ 5 ∷ 5 ∷ []) gives 0 ∷ 5 ∷ 2 ∷ 0 ∷ 0 ∷ 0 ∷ 0 ∷ 0 ∷ 1 ∷ 1 ∷ [])
     -- a body has no byte of the capture number
     ∷ (take 2 (bodyAt (entry 7 8 ++ (9 ∷ 9 ∷ 9 ∷ 9 ∷ 5 ∷ 6 ∷ [])) 1) gives 5 ∷ 6 ∷ [])
     ∷ (answer (splitCall 2 (entry 1 0 ++ entry 2 0) (9 ∷ 9 ∷ [])) gives 0 ∷ 2 ∷ 0 ∷ 0 ∷ 0 ∷ [])

@@ -3,7 +3,7 @@ use mathlib.Core.Path.{_≡_}
 use mathlib.Core.List.{[], _∷_}
 use denote.Ref.{now}
 use Rattle.rdp.proofs.Determined.{answered-determined, load-determined, size-determined, refusal-determined, sampling-determined}
-use Rattle.rdp.proofs.Determined.{yes-determined}
+use Rattle.rdp.proofs.Determined.{split-determined, yes-determined}
 use Rattle.tulonkasa.proofs.files.tk_write_pam.Reads as tk-write-pam
 use Rattle.tulonkasa.proofs.files.tk_read_pam.Reads as tk-read-pam
 use Rattle.tulonkasa.proofs.keys.tk_key.Reads as tk-key
@@ -19,6 +19,7 @@ use Rattle.tulonkasa.proofs.pictures.tk_sampling_lookup.Reads as tk-sam
 use Rattle.tulonkasa.proofs.pictures.tk_sampling_lookup_observed.Reads as tk-sampling-lookup-observed
 use Rattle.tulonkasa.proofs.replay.tk_replay_record.Reads as tk-replay-record
 use Rattle.tulonkasa.proofs.sampling.tk_sampling.Reads as tk-sampling
+use Rattle.tulonkasa.proofs.splits.tk_split.Reads as tk-split
 
 pub tk-write-pam-one : (w : _) (a : _) (r s : _) (e f : _) → tk-write-pam.Post w a r e → tk-write-pam.Post w a s f
     → (r ≡ s) × (now (e .1 .1 .1 .0) ∷ [] ≡ now (f .1 .1 .1 .0) ∷ [])
@@ -84,3 +85,7 @@ tk-sampling-one w a r s e f p q = sampling-determined _ r s p q
 pub tk-replay-record-one : (w : _) (a : _) (r s : _) (e f : _) → tk-replay-record.Post w a r e → tk-replay-record.Post w a s f
     → (r ≡ s) × (now (e .0) ∷ now (e .1 .0) ∷ [] ≡ now (f .0) ∷ now (f .1 .0) ∷ [])
 tk-replay-record-one w a r s e f p q = answered-determined _ r s _ _ p q
+
+pub tk-split-one : (w : _) (a : _) (r s : _) (e f : _) → tk-split.Post w a r e → tk-split.Post w a s f
+    → (r ≡ s) × (now (e .1 .1 .0) ∷ [] ≡ now (f .1 .1 .0) ∷ [])
+tk-split-one w a r s e f p q = split-determined _ r s _ _ p q
