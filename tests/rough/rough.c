@@ -588,7 +588,7 @@ static void choose_lengths(void) {
         if (i == PICTURE) right = (size_t)(4 * count + (one_in(4) ? up_to(100) : 0));
         if (i == TRAIL) right = (size_t)(2 * each * count + (one_in(4) ? up_to(100) : 0));
         if (i == PAM) right = (size_t)(header + 4 * count + (one_in(4) ? up_to(100) : 0));
-        if (i == TO_SPLIT) right = (size_t)now.count * TK_ENTRY_BYTES;
+        if (i == TO_SPLIT) right = (size_t)(now.count <= TK_ENTRIES_MOST ? now.count : up_to(12)) * TK_ENTRY_BYTES;
         if (i == SIDES) right = now.count;
         lend(&buffers[i], some_length(i, right));
     }
