@@ -761,6 +761,11 @@ static void check_read(void) {
     if (!now.header.is_changed && memcmp(buffers[PICTURE].lent, from, 4 * texels()) != 0) fail("the picture's texels");
 }
 
+/* The first byte is asked first, which is quicker under the sanitizers. */
+static bool same_body(const uint8_t *a, const uint8_t *b) {
+    return *a == *b && memcmp(a, b, TK_ENTRY_BYTES - BODY_AT) == 0;
+}
+
 /* What a split answered and left. The group of each entry is found by going through the first entries of all groups. */
 static void check_split(void) {
     static const uint8_t *first[TK_ENTRIES_MOST];
@@ -768,7 +773,7 @@ static void check_split(void) {
     for (uint32_t i = 0; i < now.count; i++) {
         const uint8_t *body = buffers[TO_SPLIT].lent + (size_t)i * TK_ENTRY_BYTES + BODY_AT;
         uint32_t group = 0;
-        while (group < groups && memcmp(first[group], body, TK_ENTRY_BYTES - BODY_AT) != 0) group++;
+        while (group < groups && !same_body(first[group], body)) group++;
         if (group == groups) first[groups++] = body;
         if (buffers[SIDES].lent[i] != (group % 5 == 4)) fail("a side");
         held_out += group % 5 == 4;
