@@ -179,7 +179,7 @@ impl Random {
     }
 
     fn change_bytes(&mut self, file: &mut Vec<u8>) {
-        let byte = if self.to(1) == 0 { self.pick(&SPACES) } else { self.random.next() as u8 };
+        let byte = if self.to(1) == 0 { self.pick(&SPACES) } else { self.random.bits() as u8 };
         let place = self.to(file.len().min(100));
         match self.to(2) {
             0 => file.insert(place, byte),

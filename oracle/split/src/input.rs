@@ -60,7 +60,7 @@ impl Input {
             let capture = match self.captures {
                 Captures::Same => 7,
                 Captures::Rising => capture,
-                Captures::Random => random.next() as u32,
+                Captures::Random => random.bits() as u32,
             };
             entries.extend(capture.to_be_bytes());
             entries.extend(self.body(body, &base));
@@ -110,7 +110,7 @@ impl Input {
 fn random_bytes(random: &mut Random) -> [u8; BODY] {
     let mut bytes = [0; BODY];
     for chunk in bytes.chunks_mut(8) {
-        chunk.copy_from_slice(&random.next().to_le_bytes()[..chunk.len()]);
+        chunk.copy_from_slice(&random.bits().to_le_bytes()[..chunk.len()]);
     }
     bytes
 }

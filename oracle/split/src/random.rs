@@ -9,7 +9,7 @@ pub fn input(random: &mut Random) -> Input {
     let kind = kind(random);
     let right = Input {
         captures: random.pick(&[Captures::Same, Captures::Rising, Captures::Random]),
-        seed: random.next(),
+        seed: random.bits(),
         ..Input::new(kind, bodies(random, size))
     };
     if random.to(7) == 0 {
@@ -67,7 +67,7 @@ fn bodies(random: &mut Random, size: usize) -> Vec<u16> {
 fn wrong(random: &mut Random, right: Input) -> Input {
     let count = match random.to(3) {
         0 => MOST + 1 + random.to(3) as u32,
-        1 => random.next() as u32 >> random.to(31),
+        1 => random.bits() as u32 >> random.to(31),
         _ => right.count,
     };
     let bytes = match random.to(5) {
