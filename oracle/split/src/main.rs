@@ -17,7 +17,7 @@ use split::{groups, BODY, BUFFERS, COUNT, ENTRY, MOST};
 use std::process::ExitCode;
 
 /// What must come up, in the order of [`points`].
-const POINTS: [&str; 23] = [
+const POINTS: [&str; 24] = [
     "inputs taken",
     "refused with 16",
     "refused with 17",
@@ -35,6 +35,7 @@ const POINTS: [&str; 23] = [
     "few groups",
     "one body, several capture numbers",
     "a held-out group with several entries",
+    "a group again, 4,000 groups later, at the end",
     "16 with buffers that fit the count",
     "16 with buffers that do not",
     "entries a byte short, sides right",
@@ -84,7 +85,7 @@ impl Comparison for Splitter {
 
     fn print(all: &[Counts]) -> bool {
         let sums: Vec<u64> = (0..POINTS.len()).map(|point| all.iter().map(|counts| counts[point]).sum()).collect();
-        POINTS.iter().zip(&sums).for_each(|(name, sum)| println!("  {name:38} {sum:>10}"));
+        POINTS.iter().zip(&sums).for_each(|(name, sum)| println!("  {name:46} {sum:>10}"));
         sums.iter().all(|&sum| sum > 0)
     }
 }
@@ -98,6 +99,7 @@ fn points(input: &Input, refusal: u32, entries: &[u8]) -> [bool; POINTS.len()] {
     let apart = |kind| different > 1 && input.kind == kind;
     let repeated = different < count;
     let held_out_again = (0..count).any(|i| groups[i] % 5 == 4 && groups[..i].contains(&groups[i]));
+    let back_at_the_end = groups.last().is_some_and(|last| last + 4000 < different);
     let stated = input.count as usize;
     let (fits_bytes, fits_sides) = (stated.checked_mul(ENTRY) == Some(input.bytes), stated == input.sides);
     let beside = |length: usize, more: isize, right: usize| right.checked_add_signed(more) == Some(length);
@@ -120,6 +122,7 @@ fn points(input: &Input, refusal: u32, entries: &[u8]) -> [bool; POINTS.len()] {
         different > 1 && 4 * different <= count,
         repeated && input.captures != Captures::Same,
         held_out_again,
+        back_at_the_end,
         refusal == COUNT && fits_bytes && fits_sides,
         refusal == COUNT && !(fits_bytes && fits_sides),
         wrong && fits_sides && beside(input.bytes, -1, stated * ENTRY),

@@ -43,17 +43,21 @@ fn partitions(length: usize) -> Vec<Vec<u16>> {
     (0..length).fold(vec![vec![]], |lists, _| lists.into_iter().flat_map(longer).collect())
 }
 
-/// Few groups and many, at the ends and beside the limit, in each kind.
+/// Sizes at the ends and beside the limit, in each kind: all bodies different; few groups; half as many groups as entries, and then
+/// all of them again; and all different but the last, which is the fifth again.
 fn sizes() -> impl Iterator<Item = Input> {
-    let sizes = [0, 1, 2, 5, 6, 100, MOST - 1, MOST];
+    let sizes = [0, 1, 2, 5, 6, 100, MOST - 1, MOST].map(|size| size as u16);
     let kinds = [Kind::Random, Kind::TwoBytes(0), Kind::TwoBytes(BODY - 2)].into_iter();
     let kinds = kinds.chain(STRIDES.map(Kind::Staircase));
-    let kinds = kinds.flat_map(|kind| [Captures::Same, Captures::Rising].map(|captures| (kind, captures)));
-    kinds.flat_map(move |(kind, captures)| {
+    kinds.flat_map(move |kind| {
         sizes.into_iter().flat_map(move |size| {
-            let all_different = (0..size as u16).collect();
-            let few_groups = (0..size).map(|i| (i * i % 23) as u16).collect();
-            [all_different, few_groups].map(|bodies| Input { captures, ..Input::new(kind, bodies) })
+            let different = (0..size).collect();
+            let few = (0..size).map(|i| i % 23).collect();
+            let half = (0..size).map(|i| i % (size / 2).max(1)).collect();
+            let fifth = (0..size).map(|i| if i + 1 == size { 4 } else { i }).collect();
+            let captures = [Captures::Same, Captures::Rising, Captures::Random, Captures::Rising];
+            let inputs = [different, few, half, fifth].into_iter().zip(captures);
+            inputs.map(move |(bodies, captures)| Input { captures, ..Input::new(kind, bodies) })
         })
     })
 }
