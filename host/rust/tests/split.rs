@@ -91,7 +91,7 @@ fn as_many_as_are_taken() {
 #[test]
 fn a_split_needs_little_stack() {
     let all = entries(0..ENTRIES_MOST as u32);
-    // A system may give a thread more than it asks for, but none gives it much more.
+    // A system may give a thread more than it asks for.
     let thread = std::thread::Builder::new().stack_size(64 << 10).spawn(move || split(&all).map(|split| split.totals));
     assert_eq!(thread.unwrap().join().unwrap(), Ok(Totals { tuning: 3277, held_out: 819 }));
 }
