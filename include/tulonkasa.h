@@ -2,8 +2,9 @@
  *
  * The texture memory is a bank of 4,096 bytes. The library loads it (block, tile, palette), makes pictures of it, says
  * which of its bytes a tile can reach, and cuts a key for a picture: the bank with the bytes kept that making its visible
- * part reads, and all others zero. It writes a picture as a file for other programs, and reads such files. It also replays a
- * capture, which is a file of records of such loads and keys.
+ * part reads, and all others zero. It writes a picture as a file for other programs, and reads such files. It replays a
+ * capture, which is a file of records of such loads and keys. It also splits captures into tuning and held-out ones by their
+ * keys.
  *
  * Rules that hold for every call:
  *
@@ -11,8 +12,8 @@
  *   no state of its own, so calls on different buffers may run at the same time.
  * - Buffers of one call must not overlap. A buffer of length 0 may have a null pointer.
  * - Every number is taken. One that is out of range, or a buffer of a wrong length, is refused with a number (TK_REFUSED_..
- *   below). Each call tests only what it has a use for, in this order: 1, 8, 10, 2, 3, 4, 11, 5, 12, 6, 7, 9. Reading a file,
- *   tk_read_pam, has an order of its own: 13, 14, 2, 15, 6.
+ *   below). Each call tests only what it has a use for, in this order: 1, 8, 10, 2, 3, 4, 11, 5, 12, 6, 7, 9. Two calls have
+ *   an order of their own: tk_read_pam 13, 14, 2, 15, 6; tk_split 16, 17.
  * - A refused call changes no buffer, and its other answers are 0.
  * - Success is the refusal 0, TK_DONE.
  *
@@ -42,6 +43,8 @@ extern "C" {
 #define TK_SIDE_MOST 1024      /* width and height, of a tile or a picture, are at most this */
 #define TK_TEXEL_READS_MOST 4  /* a texel reads at most this many bytes of the bank */
 #define TK_RECORD_BYTES 48     /* a record of a capture */
+#define TK_ENTRY_BYTES 4117    /* an entry of a split: 4 and 16 bytes, the lane's byte, and a key */
+#define TK_ENTRIES_MOST 4096   /* a split has at most this many entries */
 
 /* The header that tk_write_pam writes has at most this many bytes: 63, and the digits of width and height, at most ten each. */
 #define TK_PAM_HEADER_MOST (63 + 2 * 10)
@@ -64,7 +67,9 @@ enum {
     TK_REFUSED_ZERO_SIDE = 12,   /* a picture to be written has a zero side */
     TK_REFUSED_HEADER = 13,      /* a file's header breaks the PAM description, a zero side included */
     TK_REFUSED_TUPLES = 14,      /* a file's depth, maximum or tuple type is another, or it has no tuple type */
-    TK_REFUSED_TEXELS = 15       /* a file has fewer texel bytes than its header calls for */
+    TK_REFUSED_TEXELS = 15,      /* a file has fewer texel bytes than its header calls for */
+    TK_REFUSED_COUNT = 16,       /* the count of a split's entries is above TK_ENTRIES_MOST */
+    TK_REFUSED_ENTRIES = 17      /* a split's entries are not TK_ENTRY_BYTES each, or its sides not one byte each */
 };
 
 /* ---- Answers -------------------------------------------------------------------------------------------------------- */
@@ -107,6 +112,13 @@ typedef struct tk_yes_answer {
     uint32_t refusal;
     uint32_t yes;
 } tk_yes_answer;
+
+/* tuning, held_out: how many entries are on each side. They add up to the count of entries. */
+typedef struct tk_split_answer {
+    uint32_t refusal;
+    uint32_t tuning;
+    uint32_t held_out;
+} tk_split_answer;
 
 /* ---- A tile and its mode -------------------------------------------------------------------------------------------- */
 
@@ -303,10 +315,41 @@ tk_answer tk_replay_record(uint8_t *bank, size_t bank_length, uint8_t *written, 
                            const uint8_t *record, size_t record_length, uint64_t end, const uint8_t *part,
                            size_t part_length);
 
+/* ---- Tuning and held out -------------------------------------------------------------------------------------------- */
+
+/* Puts each of `count` entries on a side: 0 for tuning, 1 for held out. An entry is what is known of one capture's picture.
+ *
+ *     byte  0 to 3      capture number, which says whose entry it is and is never looked at
+ *           4 to 11     fmt, siz, palette, mode, cms, cmt, masks, maskt, a byte each
+ *          12 to 19     line, tmem_addr, width, height, two bytes each, high byte first
+ *          20           lane
+ *          21 to 4,116  key, as tk_key leaves it
+ *
+ * tk_put_entry writes one. Bytes 4 to 4,116 are the entry's body. Bodies are compared as they are: no tile, lane or key is
+ * tested, and any bytes will do.
+ *
+ * Entries with equal bodies are a group. Groups are numbered from 0, in the order of their first entries. Groups 4, 9, 14 and so
+ * on are held out, which is the fifth of every five, and the others are for tuning. An entry is on its group's side. What may be
+ * relied on:
+ *
+ * - Entries that agree in all but the capture number are on the same side, wherever they stand.
+ * - A side depends on the entry itself and those before it, never on later ones. So entries may be added behind others, and all
+ *   sides given before stay.
+ * - A further entry of a group takes no turn. Every five groups have one that is held out; what is left over of less than five
+ *   has none.
+ * - One wall captured at two widths is two groups, though it may have one key: the tile records, bytes 4 to 19, differ. They may
+ *   come to be on two sides.
+ *
+ * entries: exactly `count` times TK_ENTRY_BYTES, one entry behind the other. sides: exactly `count` bytes, all overwritten.
+ * No entries are taken too: count 0 and two empty buffers.
+ * Refuses 16 (count), 17 (entries, sides). Answers how many entries are for tuning and how many are held out. */
+tk_split_answer tk_split(uint32_t count, const uint8_t *entries, size_t entries_length, uint8_t *sides,
+                         size_t sides_length);
+
 /* ---- The same calls on a tk_tile ------------------------------------------------------------------------------------ */
 
 /* Here a bank or key is a pointer to TK_BANK_BYTES, a written or reach map to TK_MAP_BYTES, a lane map to TK_LANE_MAP_BYTES,
- * a record to TK_RECORD_BYTES. */
+ * a record to TK_RECORD_BYTES, entries to TK_ENTRY_BYTES each, sides to a byte each. */
 
 static inline tk_load_answer tk_load_block_of(uint8_t *bank, uint8_t *written, const uint8_t *source, size_t source_length,
                                               const tk_tile *tile, uint32_t image_siz, uint32_t dxt, uint32_t words) {
@@ -379,6 +422,23 @@ static inline tk_answer tk_key_of(const uint8_t *bank, const tk_tile *tile, uint
 static inline tk_answer tk_replay_record_of(uint8_t *bank, uint8_t *written, const uint8_t *record, uint64_t end,
                                             const uint8_t *part, size_t part_length) {
     return tk_replay_record(bank, TK_BANK_BYTES, written, TK_MAP_BYTES, record, TK_RECORD_BYTES, end, part, part_length);
+}
+
+static inline tk_split_answer tk_split_of(uint32_t count, const uint8_t *entries, uint8_t *sides) {
+    return tk_split(count, entries, (size_t)count * TK_ENTRY_BYTES, sides, count);
+}
+
+/* Writes the entry of a capture: its number, the tile, the lane, and the key that tk_key cut. Such numbers fit their bytes. */
+static inline void tk_put_entry(uint8_t *entry, uint32_t capture, const tk_tile *tile, uint32_t lane, const uint8_t *key) {
+    const uint32_t numbers[12] = {TK_TILE_ARGUMENTS(tile)};
+    for (size_t i = 0; i < 4; i++) entry[i] = (uint8_t)(capture >> (24 - 8 * i));
+    for (size_t i = 0; i < 8; i++) entry[4 + i] = (uint8_t)numbers[i];
+    for (size_t i = 8; i < 12; i++) {
+        entry[2 * i - 4] = (uint8_t)(numbers[i] >> 8);
+        entry[2 * i - 3] = (uint8_t)numbers[i];
+    }
+    entry[20] = (uint8_t)lane;
+    for (size_t i = 0; i < TK_BANK_BYTES; i++) entry[21 + i] = key[i];
 }
 
 /* Whether address a is marked in a map. */

@@ -14,6 +14,10 @@ use tulonkasa::{slices, Tile, LOOKUP_TEXELS, SIDE_MOST};
 /// The goals for the ratios of archive to original.
 const GOAL: f64 = 0.5;
 const GOAL_PICTURES_AND_LOADS: f64 = 0.25;
+const GOAL_SPLITS: f64 = 2.0;
+
+/// No split should take longer, in nanoseconds.
+const SPLIT_MOST: f64 = 100e6;
 
 /// Pairs of format and size that modes 0 and 1 accept.
 const DIRECT: [(u32, u32); 11] = [(0, 2), (0, 3), (2, 0), (2, 1), (2, 2), (2, 3), (3, 0), (3, 1), (3, 2), (4, 0), (4, 1)];
@@ -44,6 +48,7 @@ fn main() -> ExitCode {
     bench.loads();
     bench.others();
     bench.files();
+    bench.splits();
     bench.conclude();
     ExitCode::SUCCESS
 }
@@ -56,6 +61,16 @@ fn bytes(count: usize) -> Vec<u8> {
         (n >> 24) as u8
     };
     std::iter::repeat_with(next).take(count).collect()
+}
+
+/// As many entries as can be split, of which each body is made from the one before.
+fn entries(change: impl Fn(usize, &mut [u8])) -> Vec<u8> {
+    let mut entry = bytes(split::ENTRY);
+    let next = |number| {
+        change(number, &mut entry[split::NUMBER..]);
+        entry.clone()
+    };
+    (0..split::MOST as usize).flat_map(next).collect()
 }
 
 fn descriptor(tile: &Tile) -> TileDescriptor {
@@ -366,9 +381,43 @@ impl Bench {
         println!("| {name} | {side} by {side} | {beside_plain} | {beside_copy} |");
     }
 
+    /// The original does not split. The second splitter, a hash map over the bodies, stands for it.
+    fn splits(&mut self) {
+        println!("\nSplits of 4,096 entries, nanoseconds a split, beside the hash map of `oracle/split`.\n");
+        println!("| entries | Rust | archive | ratio |");
+        println!("|---|---|---|---|");
+        let few = bytes(16 * split::ENTRY).repeat(split::MOST as usize / 16);
+        let last = entries(|number, body| body[split::BODY - 2..].copy_from_slice(&(number as u16).to_be_bytes()));
+        let stairs = entries(|number, body| body[split::BODY - 1 - number] ^= 1);
+        for (name, entries) in [
+            ("random bodies", bytes(split::MOST as usize * split::ENTRY)),
+            ("sixteen groups", few),
+            ("bodies that differ in the last two bytes", last),
+            ("a staircase: each body differs from the one before in one more place, from the last one on", stairs),
+        ] {
+            self.split_row(name, &entries);
+        }
+    }
+
+    fn split_row(&mut self, name: &str, entries: &[u8]) {
+        let [mut plain, mut proved] = [vec![0; split::MOST as usize], vec![0; split::MOST as usize]];
+        let pair = race(
+            self.rounds,
+            || used(split::split(split::MOST, black_box(entries), black_box(&mut plain)).expect("in range")),
+            || used(slices::split(split::MOST, black_box(entries), black_box(&mut proved)).expect("in range")),
+        );
+        let cells = self.judge(format!("split, {name}"), pair, GOAL_SPLITS);
+        if pair.archive > SPLIT_MOST {
+            self.above.push(format!("split, {name}: {:.0} ns, goal {SPLIT_MOST}", pair.archive));
+        }
+        println!("| {name} | {cells} |");
+    }
+
     fn conclude(&self) {
         println!(
-            "\nGoals: {GOAL_PICTURES_AND_LOADS} for pictures and loads, {GOAL} for the others. Above them: {}.",
+            "\nGoals: {GOAL_PICTURES_AND_LOADS} for pictures and loads, {GOAL_SPLITS} for splits and {} ms, {GOAL} for the others. \
+             Above them: {}.",
+            SPLIT_MOST / 1e6,
             self.above.len()
         );
         if !self.above.is_empty() {

@@ -1,5 +1,5 @@
 /* An example: load a block, make a picture of it, write the picture as a file and read it back, cut the picture's key, and print
- * the bytes that the key keeps. Then replay a capture of the same load and key. */
+ * the bytes that the key keeps. Then replay a capture of the same load and key, and split six captures of the tile. */
 
 #include <inttypes.h>
 #include <stdio.h>
@@ -75,5 +75,19 @@ int main(void) {
         tk_answer done = tk_replay_record_of(fresh_bank, fresh_map, capture[i], sizeof source, source, sizeof source);
         printf("replayed: %" PRIu32 " %" PRIu32 "\n", done.refusal, done.count);
     }
+
+    /* Captures 0 to 4 differ in the first texel. Capture 5 is the fifth again with another leftover byte, so its key is the same. */
+    enum { CAPTURES = 6, LEFTOVER = 64 };
+    static uint8_t entries[CAPTURES][TK_ENTRY_BYTES], sides[CAPTURES];
+    for (uint8_t i = 0; i < CAPTURES; i++) {
+        bank[0] = i < 5 ? i : 4;
+        bank[LEFTOVER] = i;
+        if (refused("key", tk_key_of(bank, &tile, 0, key).refusal)) return 1;
+        tk_put_entry(entries[i], i, &tile, 0, key);
+    }
+    tk_split_answer split = tk_split_of(CAPTURES, entries[0], sides);
+    if (refused("split", split.refusal)) return 1;
+    printf("split: %" PRIu32 " tuning, %" PRIu32 " held out\n", split.tuning, split.held_out);
+    for (size_t i = 0; i < CAPTURES; i++) printf("capture %zu: %s\n", i, sides[i] == 0 ? "tuning" : "held out");
     return 0;
 }

@@ -9,6 +9,7 @@
 static uint8_t bank[TK_BANK_BYTES], written[TK_MAP_BYTES], map[TK_MAP_BYTES], lanes[TK_LANE_MAP_BYTES], key[TK_BANK_BYTES];
 static uint8_t picture[4 * TK_LOOKUP_TEXELS], trail[2 * TK_TEXEL_READS_MOST * TK_LOOKUP_TEXELS];
 static uint8_t source[64], part[TK_SOURCE_MOST + 1], file[TK_PAM_HEADER_MOST + 4 * TK_SIDE_MOST];
+static uint8_t entries[(TK_ENTRIES_MOST + 1) * TK_ENTRY_BYTES], sides[TK_ENTRIES_MOST + 1];
 static int wrong;
 
 static void check(int holds, const char *what, int line) {
@@ -342,6 +343,46 @@ static void check_replay(void) {
     CHECK(answer.refusal == 0 && answer.count == 4 && memcmp(before, bank, sizeof bank) == 0);
 }
 
+/* The count is taken up to its limit and refused past it, whatever the lengths are; each length must be the right one. */
+static void check_split_lengths(void) {
+    size_t most = TK_ENTRIES_MOST * TK_ENTRY_BYTES;
+    CHECK(tk_split(TK_ENTRIES_MOST, entries, most, sides, TK_ENTRIES_MOST).refusal == 0);
+    CHECK(tk_split(TK_ENTRIES_MOST + 1, entries, sizeof entries, sides, sizeof sides).refusal == 16);
+    CHECK(tk_split(UINT32_MAX, entries, most, sides, TK_ENTRIES_MOST).refusal == 16);
+    CHECK(tk_split(UINT32_MAX, NULL, 0, NULL, 0).refusal == 16);
+    for (size_t off = 0; off < 2; off++) {
+        CHECK(tk_split(3, entries, 3 * TK_ENTRY_BYTES - 1 + 2 * off, sides, 3).refusal == 17);
+        CHECK(tk_split(3, entries, 3 * TK_ENTRY_BYTES, sides, 2 + 2 * off).refusal == 17);
+        CHECK(tk_split((uint32_t)(2 + 2 * off), entries, 3 * TK_ENTRY_BYTES, sides, 3).refusal == 17);
+    }
+}
+
+/* What a split answers and leaves: six entries of five groups, and then their front. Tiles, lanes and keys are told apart, and
+ * capture numbers are not. */
+static void check_split_answers(void) {
+    static const uint8_t due[] = {0, 0, 0, 0, 1, 1, 7}, front[] = {0, 0, 0, 0, 7};
+    tk_tile tile = plain_tile(), last = with(tile, 11, 257);
+    memset(key, 3, sizeof key);
+    tk_put_entry(entries, 0, &tile, 0, key);
+    tk_put_entry(entries + TK_ENTRY_BYTES, 1, &tile, 1, key);
+    tk_put_entry(entries + 3 * TK_ENTRY_BYTES, 3, &last, 1, key);
+    key[TK_BANK_BYTES - 1] = 4;
+    tk_put_entry(entries + 2 * TK_ENTRY_BYTES, 2, &tile, 1, key);
+    tk_put_entry(entries + 4 * TK_ENTRY_BYTES, 0x01020304, &last, 1, key);
+    tk_put_entry(entries + 5 * TK_ENTRY_BYTES, 5, &last, 1, key);
+    static const uint8_t head[] = {1, 2, 3, 4, 4, 1, 1, 1, 2, 2, 1, 1, 0, 1, 0, 2, 0, 3, 1, 1, 1, 3};
+    CHECK(memcmp(entries + 4 * TK_ENTRY_BYTES, head, sizeof head) == 0 && entries[5 * TK_ENTRY_BYTES - 1] == 4);
+
+    memset(sides, 7, sizeof sides);
+    tk_split_answer answer = tk_split_of(6, entries, sides);
+    CHECK(answer.refusal == 0 && answer.tuning == 4 && answer.held_out == 2 && memcmp(sides, due, sizeof due) == 0);
+    memset(sides, 7, sizeof sides);
+    answer = tk_split_of(4, entries, sides);
+    CHECK(answer.refusal == 0 && answer.tuning == 4 && answer.held_out == 0 && memcmp(sides, front, sizeof front) == 0);
+    answer = tk_split(6, entries, 6 * TK_ENTRY_BYTES - 1, sides, 6);
+    CHECK(answer.refusal == 17 && answer.tuning == 0 && answer.held_out == 0 && memcmp(sides, front, sizeof front) == 0);
+}
+
 /* Eight stores, none of a byte of the source. */
 static int all_made_up(tk_load_answer answer) { return answer.count == 8 && answer.made_up == 8; }
 
@@ -361,6 +402,9 @@ static void check_null(void) {
     CHECK(tk_load_tlut(NULL, 0, NULL, 0, NULL, 0, 0, 0, 0, 0, 0, 0, 1, 0).refusal == 1);
     CHECK(tk_write_pam(1, 1, NULL, 0, NULL, 0).refusal == 6);
     CHECK(tk_read_pam(NULL, 0, NULL, 0).refusal == 13);
+    tk_split_answer nothing = tk_split(0, NULL, 0, NULL, 0);
+    CHECK(nothing.refusal == 0 && nothing.tuning == 0 && nothing.held_out == 0);
+    CHECK(tk_split(1, NULL, 0, NULL, 0).refusal == 17);
     CHECK(tk_reach(TK_TILE_ARGUMENTS(t), NULL, 0) == 1);
     CHECK(tk_tile_has_load(TK_TILE_ARGUMENTS(t), NULL, 0).refusal == 1);
     CHECK(tk_palette_nonreplicated(NULL, 0, NULL, 0) == 1);
@@ -382,6 +426,8 @@ int main(void) {
     check_answers();
     check_load_answers();
     check_replay();
+    check_split_lengths();
+    check_split_answers();
     check_null();
     return wrong;
 }

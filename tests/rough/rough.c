@@ -1,4 +1,5 @@
-/* Rough handling: every entry, called with numbers of the full range, buffers of any length, and records and files of any bytes.
+/* Rough handling: every entry, called with numbers of the full range, buffers of any length, and records, files and entries of any
+ * bytes.
  *
  *     rough SECONDS SEED [CALLS]      until the time is up, or for so many calls
  *
@@ -35,6 +36,13 @@ static bool one_in(uint32_t n) { return up_to(n - 1) == 0; }
 /* Any number of 32 bits, small ones as often as large ones. */
 static uint32_t any_number(void) { return (uint32_t)random64() >> up_to(31); }
 
+static void put_random(uint8_t *bytes, size_t length) {
+    for (size_t i = 0; i < length; i += 8) {
+        uint64_t eight = random64();
+        memcpy(bytes + i, &eight, length - i < 8 ? length - i : 8);
+    }
+}
+
 /* ---- Buffers -------------------------------------------------------------------------------------------------------- */
 
 /* Memory between two pages that cannot be touched, and a copy of what it must hold. A part of it is lent. */
@@ -46,11 +54,14 @@ typedef struct buffer {
 } buffer;
 
 /* SOURCE is also the part of the companion that a replay takes. */
-enum { BANK, WRITTEN, SOURCE, PICTURE, TRAIL, MAP, LANES, KEY, RECORD, PAM, BUFFERS };
+enum { BANK, WRITTEN, SOURCE, PICTURE, TRAIL, MAP, LANES, KEY, RECORD, PAM, TO_SPLIT, SIDES, BUFFERS };
 
 static buffer buffers[BUFFERS];
-static const char *const buffer_names[BUFFERS] = {"bank",      "written map", "source", "picture", "trail",
-                                                  "reach map", "lane map",    "key",    "record",  "file"};
+static const char *const buffer_names[BUFFERS] = {"bank",     "written map", "source", "picture", "trail",   "reach map",
+                                                  "lane map", "key",         "record", "file",    "entries", "sides"};
+
+/* Where the body of an entry begins, behind its capture number. */
+enum { BODY_AT = 4 };
 
 /* A header that is made here has at most this many bytes. */
 enum { HEADER_ROOM = 8192 };
@@ -65,7 +76,9 @@ static const size_t right_length[BUFFERS] = {TK_BANK_BYTES,
                                              TK_LANE_MAP_BYTES,
                                              TK_BANK_BYTES,
                                              TK_RECORD_BYTES,
-                                             HEADER_ROOM + 4 * TK_SIDE_MOST *TK_SIDE_MOST};
+                                             HEADER_ROOM + 4 * TK_SIDE_MOST *TK_SIDE_MOST,
+                                             TK_ENTRIES_MOST *TK_ENTRY_BYTES,
+                                             TK_ENTRIES_MOST};
 
 static void make_buffer(buffer *b, size_t least) {
     size_t page = (size_t)sysconf(_SC_PAGESIZE);
@@ -79,7 +92,7 @@ static void make_buffer(buffer *b, size_t least) {
     mprotect(all, page, PROT_NONE);
     mprotect(all + page + b->room, page, PROT_NONE);
     b->memory = all + page;
-    for (size_t i = 0; i < b->room; i++) b->memory[i] = (uint8_t)random64();
+    put_random(b->memory, b->room);
     memcpy(b->copy, b->memory, b->room);
 }
 
@@ -108,6 +121,7 @@ enum {
     REPLAY_RECORD,
     WRITE_PAM,
     READ_PAM,
+    SPLIT,
     ENTRIES
 };
 
@@ -125,7 +139,8 @@ static const char *const entry_names[ENTRIES] = {"tk_load_block",
                                                  "tk_key",
                                                  "tk_replay_record",
                                                  "tk_write_pam",
-                                                 "tk_read_pam"};
+                                                 "tk_read_pam",
+                                                 "tk_split"};
 
 /* What an entry takes, and so what it can refuse. */
 enum {
@@ -138,7 +153,8 @@ enum {
     TAKES_TRAIL = 64,
     TAKES_RECORD = 128,
     TAKES_SIDES = 256,
-    TAKES_HEADER = 512
+    TAKES_HEADER = 512,
+    TAKES_COUNT = 1024
 };
 
 static const struct {
@@ -162,6 +178,7 @@ static const struct {
     [REPLAY_RECORD] = {TAKES_RECORD, 1 << RECORD | 1 << SOURCE, 1 << BANK | 1 << WRITTEN},
     [WRITE_PAM] = {TAKES_SIDES, 1 << PICTURE, 1 << PAM},
     [READ_PAM] = {TAKES_HEADER, 1 << PAM, 1 << PICTURE},
+    [SPLIT] = {TAKES_COUNT, 1 << TO_SPLIT, 1 << SIDES},
 };
 
 /* What a record asks for, by its kind. */
@@ -173,6 +190,7 @@ static struct {
     uint32_t lane, image_siz, numbers[3]; /* dxt, words; or rows, words, stride; or count, rows, stride */
     uint32_t kind, offset, length;        /* of a record */
     uint64_t end;                         /* the companion's length */
+    uint32_t count;                       /* of entries to split */
     uint8_t record[TK_RECORD_BYTES];
     struct {
         uint8_t bytes[HEADER_ROOM];
@@ -198,6 +216,7 @@ static void print_call(void) {
         fprintf(stderr, "  kind %u offset %u length %u end %llu\n", now.kind, now.offset, now.length,
                 (unsigned long long)now.end);
     }
+    if (now.entry == SPLIT) fprintf(stderr, "  count %u\n", now.count);
     if (now.entry == READ_PAM) {
         fprintf(stderr, "  header, %zu bytes%s:\n", now.header.length, now.header.is_changed ? ", changed" : "");
         fwrite(now.header.bytes, 1, now.header.length, stderr);
@@ -281,9 +300,15 @@ static uint32_t expected_of_header(void) {
     return buffers[PICTURE].length < 4 * texels() ? 6 : 0;
 }
 
+static uint32_t expected_of_split(void) {
+    if (now.count > TK_ENTRIES_MOST) return 16;
+    return buffers[TO_SPLIT].length != (size_t)now.count * TK_ENTRY_BYTES || buffers[SIDES].length != now.count ? 17 : 0;
+}
+
 static uint32_t expected_refusal(void) {
     unsigned takes = entries[now.entry].takes | entries[now.does].takes;
     if (takes & TAKES_HEADER) return expected_of_header();
+    if (takes & TAKES_COUNT) return expected_of_split();
     if (wrong_length()) return 1;
     if ((takes & TAKES_RECORD) && buffers[RECORD].length < 48) return 8;
     if ((takes & TAKES_RECORD) && now.kind > 3) return 10;
@@ -402,7 +427,7 @@ static void choose_record(void) {
     now.length = one_in(16) ? any_number() : one_in(16) ? TK_SOURCE_MOST + up_to(1) : up_to(600);
     uint32_t tile[12];
     memcpy(tile, &now.tile, sizeof tile);
-    for (size_t i = 0; i < sizeof now.record; i++) now.record[i] = (uint8_t)random64();
+    put_random(now.record, sizeof now.record);
     move(chosen && !load, &now.lane, 1, 1);
     for (size_t i = 0; i < 12; i++) {
         bool taken = !load || i < 2 || i == 8 || i == 9; /* of a load fmt, siz, line and tmem_addr */
@@ -516,12 +541,37 @@ static void choose_header(void) {
     if (one_in(4)) change_header();
 }
 
+/* Writes some bytes of a buffer that is read. */
+static void write_at(buffer *b, size_t place, const uint8_t *bytes, size_t length) {
+    memcpy(b->lent + place, bytes, length);
+    memcpy(b->copy + (b->lent - b->memory) + place, bytes, length);
+}
+
 /* Writes the front of a buffer that is read, or as much of it as is lent. */
 static void write_front(buffer *b, const uint8_t *front, size_t length) {
     size_t bytes = b->length < length ? b->length : length;
-    if (bytes == 0) return;
-    memcpy(b->lent, front, bytes);
-    memcpy(b->copy + (b->lent - b->memory), front, bytes);
+    if (bytes > 0) write_at(b, 0, front, bytes);
+}
+
+/* A count of entries: mostly few, now and then all that are taken or any number. */
+static void choose_count(void) {
+    now.count = one_in(2048) ? TK_ENTRIES_MOST : one_in(64) ? up_to(100) : up_to(12);
+    if (one_in(16)) now.count = one_in(2) ? TK_ENTRIES_MOST + 1 + up_to(3) : any_number();
+}
+
+/* Entries of any bytes; about half of them with an earlier one's body, of which one byte may be changed where they are few. */
+static void choose_entries(void) {
+    buffer *b = &buffers[TO_SPLIT];
+    for (uint32_t i = 0; i < now.count; i++) {
+        uint8_t body[TK_ENTRY_BYTES - BODY_AT];
+        if (i > 0 && one_in(2)) {
+            memcpy(body, b->lent + (size_t)up_to(i - 1) * TK_ENTRY_BYTES + BODY_AT, sizeof body);
+            if (now.count <= 100 && one_in(3)) body[up_to(sizeof body - 1)] ^= 1 << up_to(7);
+        } else {
+            put_random(body, sizeof body);
+        }
+        write_at(b, (size_t)i * TK_ENTRY_BYTES + BODY_AT, body, sizeof body);
+    }
 }
 
 /* Lends every buffer that the entry takes. Picture, trail and file get what the tile needs as far as there is room, or more. */
@@ -538,6 +588,8 @@ static void choose_lengths(void) {
         if (i == PICTURE) right = (size_t)(4 * count + (one_in(4) ? up_to(100) : 0));
         if (i == TRAIL) right = (size_t)(2 * each * count + (one_in(4) ? up_to(100) : 0));
         if (i == PAM) right = (size_t)(header + 4 * count + (one_in(4) ? up_to(100) : 0));
+        if (i == TO_SPLIT) right = (size_t)(now.count <= TK_ENTRIES_MOST ? now.count : up_to(12)) * TK_ENTRY_BYTES;
+        if (i == SIDES) right = now.count;
         lend(&buffers[i], some_length(i, right));
     }
 }
@@ -559,9 +611,11 @@ static void choose_call(void) {
     }
     if (now.entry == REPLAY_RECORD) choose_record();
     if (now.entry == READ_PAM) choose_header();
+    if (now.entry == SPLIT) choose_count();
     choose_lengths();
     if (now.entry == REPLAY_RECORD) write_front(&buffers[RECORD], now.record, sizeof now.record);
     if (now.entry == READ_PAM) write_front(&buffers[PAM], now.header.bytes, now.header.length);
+    if (now.entry == SPLIT && expected_of_split() == 0) choose_entries();
 }
 
 #define LENT(i) buffers[i].lent, buffers[i].length
@@ -625,11 +679,18 @@ static void make_call(void) {
             set_answer(tk_replay_record(LENT(BANK), LENT(WRITTEN), LENT(RECORD), now.end, LENT(SOURCE)));
             break;
         case WRITE_PAM: set_answer(tk_write_pam(t->width, t->height, LENT(PICTURE), LENT(PAM))); break;
-        default: {
+        case READ_PAM: {
             tk_size_answer given = tk_read_pam(LENT(PAM), LENT(PICTURE));
             answer.refusal = given.refusal;
             answer.numbers[0] = given.width;
             answer.numbers[1] = given.height;
+            break;
+        }
+        default: {
+            tk_split_answer given = tk_split(now.count, LENT(TO_SPLIT), LENT(SIDES));
+            answer.refusal = given.refusal;
+            answer.numbers[0] = given.tuning;
+            answer.numbers[1] = given.held_out;
         }
     }
 }
@@ -700,7 +761,28 @@ static void check_read(void) {
     if (!now.header.is_changed && memcmp(buffers[PICTURE].lent, from, 4 * texels()) != 0) fail("the picture's texels");
 }
 
+/* The first byte is asked first, which is quicker under the sanitizers. */
+static bool same_body(const uint8_t *a, const uint8_t *b) {
+    return *a == *b && memcmp(a, b, TK_ENTRY_BYTES - BODY_AT) == 0;
+}
+
+/* What a split answered and left. The group of each entry is found by going through the first entries of all groups. */
+static void check_split(void) {
+    static const uint8_t *first[TK_ENTRIES_MOST];
+    uint32_t groups = 0, held_out = 0;
+    for (uint32_t i = 0; i < now.count; i++) {
+        const uint8_t *body = buffers[TO_SPLIT].lent + (size_t)i * TK_ENTRY_BYTES + BODY_AT;
+        uint32_t group = 0;
+        while (group < groups && !same_body(first[group], body)) group++;
+        if (group == groups) first[groups++] = body;
+        if (buffers[SIDES].lent[i] != (group % 5 == 4)) fail("a side");
+        held_out += group % 5 == 4;
+    }
+    if (answer.numbers[0] != now.count - held_out || answer.numbers[1] != held_out) fail("the totals");
+}
+
 static void check_counts(void) {
+    if (now.entry == SPLIT) check_split();
     if (now.entry == WRITE_PAM) check_written();
     if (now.entry == READ_PAM) check_read();
     if (entries[now.does].takes & TAKES_LOAD) check_load_counts();
@@ -738,7 +820,7 @@ static void check_call(bool whole) {
 }
 
 /* How often each number was answered, by entry. */
-enum { NUMBERS = 16 };
+enum { NUMBERS = 18 };
 static uint64_t answered[ENTRIES][NUMBERS];
 
 /* Prints that for the entries from one up to another, added up. */

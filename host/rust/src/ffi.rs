@@ -50,6 +50,15 @@ pub struct YesAnswer {
     pub yes: u32,
 }
 
+/// A refusal, and how many entries are for tuning and how many are held out.
+#[repr(C)]
+#[derive(Clone, Copy, Debug, PartialEq, Eq)]
+pub struct SplitAnswer {
+    pub refusal: u32,
+    pub tuning: u32,
+    pub held_out: u32,
+}
+
 /// Declares entries. `tile` among the parameters stands for the twelve numbers of a tile and its mode.
 macro_rules! entries {
     ($(fn $name:ident($($before:ident: $before_type:ty),*; tile $(, $after:ident: $after_type:ty)*)
@@ -140,6 +149,14 @@ extern "C" {
         part: *const u8,
         part_length: usize,
     ) -> Answer;
+
+    pub fn tk_split(
+        count: u32,
+        entries: *const u8,
+        entries_length: usize,
+        sides: *mut u8,
+        sides_length: usize,
+    ) -> SplitAnswer;
 }
 
 entries! {

@@ -1,5 +1,5 @@
-//! Texture memory of a cartridge game console: loads, pictures (as files too), a key for each picture, and the replay of
-//! captured loads.
+//! Texture memory of a cartridge game console: loads, pictures (as files too), a key for each picture, the replay of captured
+//! loads, and the [`split`] of captures into tuning and held-out ones.
 //!
 //! The work is done by a static library whose every function is proved to meet its contract on every input. This crate
 //! gives it Rust's types: a [`Bank`] of memory, a [`Tile`] that says how to read it, and a [`Refusal`] where a number is out
@@ -29,13 +29,15 @@ mod map;
 mod picture;
 mod refusal;
 pub mod slices;
+mod split;
 mod tile;
 
 pub use bank::{Bank, Key, Loaded, Observed, BANK_BYTES, LOOKUP_TEXELS};
 pub use map::{AddressMap, LaneMap, Map};
 pub use picture::{Picture, PAM_HEADER_MOST};
 pub use refusal::Refusal;
-pub use tile::{Sampling, Tile, SIDE_MOST};
+pub use split::{split, Entry, Side, Split, Totals, ENTRIES_MOST, ENTRY_BYTES};
+pub use tile::{Sampling, Tile, SIDE_MOST, TILE_BYTES};
 
 #[cfg(test)]
 mod tests;

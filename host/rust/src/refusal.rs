@@ -35,6 +35,11 @@ pub enum Refusal {
     Tuples,
     /// 15: a file has fewer texel bytes than its header calls for.
     Texels,
+    /// 16: the count of a split's entries is above [`crate::ENTRIES_MOST`].
+    Count,
+    /// 17: a split's entries are not [`crate::ENTRY_BYTES`] each, or its sides not one byte each. The call of [`crate::slices`] can
+    /// get it; the one on this crate's own types can't.
+    Entries,
     /// A number that this crate has no name for.
     Other(u32),
 }
@@ -59,6 +64,8 @@ impl Refusal {
             13 => Self::Header,
             14 => Self::Tuples,
             15 => Self::Texels,
+            16 => Self::Count,
+            17 => Self::Entries,
             other => Self::Other(other),
         })
     }
@@ -81,6 +88,8 @@ impl Refusal {
             Self::Header => 13,
             Self::Tuples => 14,
             Self::Texels => 15,
+            Self::Count => 16,
+            Self::Entries => 17,
             Self::Other(number) => number,
         }
     }
@@ -112,6 +121,8 @@ impl fmt::Display for Refusal {
             Self::Header => "the file's header breaks the PAM description",
             Self::Tuples => "the file's depth is not 4, its maximum not 255, or its tuple type not RGB_ALPHA",
             Self::Texels => "the file has fewer texel bytes than its header calls for",
+            Self::Count => "there are more than 4,096 entries",
+            Self::Entries => "the entries are not 4,117 bytes each, or the sides not one byte each",
             Self::Other(_) => "a refusal without a name",
         };
         write!(f, "refusal {}: {words}", self.number())

@@ -1,6 +1,6 @@
 //! The archive's calls on lent slices of any length, for callers that keep their own buffers. `include/tulonkasa.h` says what
 //! each takes, refuses, answers and leaves. All of this crate's unsafe code is here.
-use crate::{ffi, Loaded, Refusal, Sampling, Tile};
+use crate::{ffi, Entry, Loaded, Refusal, Sampling, Tile, Totals, ENTRY_BYTES};
 
 /// Calls an entry of [`ffi`]. Around the tile, whose twelve numbers are passed, stand numbers, and slices as `[slice]`
 /// to be read or `[mut slice]` to be written.
@@ -170,6 +170,20 @@ pub fn replay_record(bank: &mut [u8], written: &mut [u8], record: &[u8], end: u6
         )
     };
     counted(answer)
+}
+
+/// Overwrites the sides of `count` entries, 0 for tuning and 1 for held out, and answers how many entries are on each.
+pub fn split(count: u32, entries: &[u8], sides: &mut [u8]) -> Result<Totals, Refusal> {
+    // SAFETY: each pointer comes with its slice's length, and Rust's borrows do not overlap.
+    let answer = unsafe { ffi::tk_split(count, entries.as_ptr(), entries.len(), sides.as_mut_ptr(), sides.len()) };
+    Refusal::check(answer.refusal, Totals { tuning: answer.tuning, held_out: answer.held_out })
+}
+
+/// The bytes of entries, one entry behind the other, as [`split`] takes them.
+pub fn entry_bytes(entries: &[Entry]) -> &[u8] {
+    // SAFETY: an entry is its array of bytes and nothing else (`repr(transparent)`).
+    let arrays = unsafe { std::slice::from_raw_parts(entries.as_ptr().cast::<[u8; ENTRY_BYTES]>(), entries.len()) };
+    arrays.as_flattened()
 }
 
 fn counted(answer: ffi::Answer) -> Result<u32, Refusal> {

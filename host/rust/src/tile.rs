@@ -4,6 +4,9 @@ use crate::{slices, AddressMap, Refusal};
 /// The width and height of a tile or a picture are at most this.
 pub const SIDE_MOST: u32 = 1024;
 
+/// The bytes of a tile and its mode as a capture's record has them.
+pub const TILE_BYTES: usize = 16;
+
 /// A tile and its mode. The default is all zero: a tile at the bank's start, of no texels.
 ///
 /// Every number can be written down; one out of range is refused by the call that it is given to.
@@ -47,6 +50,54 @@ pub struct Sampling {
 }
 
 impl Tile {
+    /// The tile of a record's bytes: `fmt`, `siz`, `palette`, `mode`, `cms`, `cmt`, `masks` and `maskt`, a byte each; `line`,
+    /// `tmem_addr`, `width` and `height`, two bytes each, big end first. Every record has a tile, whose numbers may be out of range.
+    ///
+    /// ```
+    /// use tulonkasa::{Refusal, Tile};
+    ///
+    /// let tile = Tile::from_bytes(&[4, 1, 0, 0, 0, 0, 0, 0, 0, 1, 0, 0, 1, 0, 0, 32]);
+    /// assert_eq!(tile, Tile { fmt: 4, siz: 1, line: 1, width: 256, height: 32, ..Tile::default() });
+    /// assert_eq!(Tile::from_bytes(&[255; 16]).sampling(), Err(Refusal::Tile));
+    /// ```
+    pub fn from_bytes(bytes: &[u8; TILE_BYTES]) -> Self {
+        let one = |place: usize| u32::from(bytes[place]);
+        let two = |place: usize| u32::from(u16::from_be_bytes([bytes[place], bytes[place + 1]]));
+        Self {
+            fmt: one(0),
+            siz: one(1),
+            palette: one(2),
+            mode: one(3),
+            cms: one(4),
+            cmt: one(5),
+            masks: one(6),
+            maskt: one(7),
+            line: two(8),
+            tmem_addr: two(10),
+            width: two(12),
+            height: two(14),
+        }
+    }
+
+    /// The bytes from which [`Tile::from_bytes`] makes this tile, once its numbers are found in range.
+    ///
+    /// ```
+    /// use tulonkasa::{Refusal, Tile};
+    ///
+    /// let tile = Tile { fmt: 4, siz: 1, line: 1, width: 256, height: 32, ..Tile::default() };
+    /// assert_eq!(tile.to_bytes(), Ok([4, 1, 0, 0, 0, 0, 0, 0, 0, 1, 0, 0, 1, 0, 0, 32]));
+    /// assert_eq!(Tile { fmt: 256, ..tile }.to_bytes(), Err(Refusal::Tile));
+    /// ```
+    pub fn to_bytes(&self) -> Result<[u8; TILE_BYTES], Refusal> {
+        self.sampling()?;
+        let one = [self.fmt, self.siz, self.palette, self.mode, self.cms, self.cmt, self.masks, self.maskt];
+        let two = [self.line, self.tmem_addr, self.width, self.height];
+        let mut bytes = [0; TILE_BYTES];
+        bytes[..8].copy_from_slice(&one.map(|number| number as u8));
+        bytes[8..].copy_from_slice(two.map(|number| (number as u16).to_be_bytes()).as_flattened());
+        Ok(bytes)
+    }
+
     /// Which picture the tile calls for.
     ///
     /// ```

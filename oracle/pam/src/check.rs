@@ -1,71 +1,12 @@
 //! One input, done by the archive and by the second reader or writer: answers, buffers, and bytes that must not have changed.
 use crate::cases;
 use crate::input::{pattern, Input};
+use common::{lend, Outcome};
 use pam::{texel_bytes, Header};
 use tulonkasa::ffi;
 
-/// What a buffer that is lent to be written holds before.
-const BEFORE: u8 = 0xa5;
-
-/// So many bytes on each side of a lent buffer are looked at too.
-const FENCE: usize = 64;
-
-/// What a call did.
-#[derive(PartialEq, Eq)]
-struct Outcome {
-    refusal: u32,
-    /// Width and height that were read, or the count of bytes written and 0.
-    numbers: [u32; 2],
-    /// The buffer that was lent to be written, with its fences.
-    buffer: Vec<u8>,
-}
-
-impl Outcome {
-    /// Of a call that puts these bytes in front of its buffer, or is refused.
-    fn new(room: usize, result: Result<([u32; 2], &[u8]), u32>) -> Self {
-        let mut buffer = vec![BEFORE; room + 2 * FENCE];
-        let (refusal, numbers, front): (_, _, &[u8]) = match result {
-            Ok((numbers, front)) => (0, numbers, front),
-            Err(refusal) => (refusal, [0; 2], &[]),
-        };
-        buffer[FENCE..FENCE + front.len()].copy_from_slice(front);
-        Self { refusal, numbers, buffer }
-    }
-
-    /// Of a call on a buffer of so many bytes.
-    fn of(room: usize, call: impl FnOnce(&mut [u8]) -> (u32, [u32; 2])) -> Self {
-        let mut buffer = vec![BEFORE; room + 2 * FENCE];
-        let (refusal, numbers) = call(&mut buffer[FENCE..FENCE + room]);
-        Self { refusal, numbers, buffer }
-    }
-
-    /// The front of the buffer.
-    fn front(&self, count: usize) -> &[u8] {
-        &self.buffer[FENCE..FENCE + count]
-    }
-
-    /// An error says where this differs from what another did.
-    fn same(&self, name: &str, other: &Self, other_name: &str) -> Result<(), String> {
-        if (self.refusal, self.numbers) != (other.refusal, other.numbers) {
-            return Err(format!("{name}: {}; {other_name}: {}", self.words(), other.words()));
-        }
-        match (0..self.buffer.len()).find(|&i| self.buffer[i] != other.buffer[i]) {
-            None => Ok(()),
-            Some(i) => Err(format!(
-                "both: {}, but byte {} of the buffer that is lent to be written, {name}: {}; {other_name}: {}",
-                self.words(),
-                i as isize - FENCE as isize,
-                self.buffer[i],
-                other.buffer[i]
-            )),
-        }
-    }
-
-    fn words(&self) -> String {
-        let [a, b] = self.numbers;
-        format!("refusal {}, numbers {a}, {b}", self.refusal)
-    }
-}
+/// What stands around a buffer that is lent to be read: a newline read past a file's end can make a difference.
+const AROUND: u8 = b'\n';
 
 /// Compares; answers the refusal. An error says where the two differ.
 pub fn check(input: &Input) -> Result<u32, String> {
@@ -86,14 +27,14 @@ fn way_back(file: &[u8], width: u32, height: u32, picture: &[u8]) -> Result<(), 
 
 fn archive(input: &Input) -> Result<Outcome, String> {
     match input {
-        Input::Read { file, room } => lend(file, |file| {
+        Input::Read { file, room } => lend(file, AROUND, |file| {
             Outcome::of(*room, |picture| {
                 // SAFETY: each pointer comes with its slice's length, and the slices do not overlap.
                 let answer = unsafe { ffi::tk_read_pam(file.as_ptr(), file.len(), picture.as_mut_ptr(), picture.len()) };
                 (answer.refusal, [answer.width, answer.height])
             })
         }),
-        Input::Write { width, height, picture, room } => lend(&pattern(*picture), |picture| {
+        Input::Write { width, height, picture, room } => lend(&pattern(*picture), AROUND, |picture| {
             Outcome::of(*room, |file| {
                 let (length, room) = (picture.len(), file.len());
                 // SAFETY: each pointer comes with its slice's length, and the slices do not overlap.
@@ -102,18 +43,6 @@ fn archive(input: &Input) -> Result<Outcome, String> {
                 (answer.refusal, [answer.count, 0])
             })
         }),
-    }
-}
-
-/// Lends a copy to be read, with newlines behind it, so that a byte read past the end can make a difference.
-fn lend(bytes: &[u8], call: impl FnOnce(&[u8]) -> Outcome) -> Result<Outcome, String> {
-    let mut copy = bytes.to_vec();
-    copy.resize(bytes.len() + FENCE, b'\n');
-    let outcome = call(&copy[..bytes.len()]);
-    if copy.starts_with(bytes) {
-        Ok(outcome)
-    } else {
-        Err("the buffer that is lent to be read was changed".into())
     }
 }
 

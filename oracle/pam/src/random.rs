@@ -1,4 +1,4 @@
-//! Random numbers by a seed; random files, most of them near to a good one, and pictures to write.
+//! Random files by a seed, most of them near to a good one, and pictures to write.
 use crate::cases;
 use crate::draft::{join, needed, numbers, others, split, Draft, LINES, SPACES, TYPES};
 use crate::input::{pattern, Input, MANY, SIDES};
@@ -6,7 +6,7 @@ use pam::{spelling, texel_bytes};
 use tulonkasa::SIDE_MOST;
 
 pub struct Random {
-    state: u64,
+    random: common::Random,
     numbers: Vec<String>,
     cases: Vec<Vec<u8>>,
 }
@@ -14,23 +14,15 @@ pub struct Random {
 impl Random {
     pub fn new(seed: u64) -> Self {
         let cases = cases::reads().into_iter().map(|case| case.file).collect();
-        Self { state: seed, numbers: numbers(), cases }
+        Self { random: common::Random::new(seed), numbers: numbers(), cases }
     }
 
-    /// Weyl's sequence, its bits mixed by a product of 128 bits.
-    fn next(&mut self) -> u64 {
-        self.state = self.state.wrapping_add(0xa076_1d64_78bd_642f);
-        let product = u128::from(self.state) * u128::from(self.state ^ 0xe703_7ed1_a0b4_28db);
-        (product >> 64) as u64 ^ product as u64
-    }
-
-    /// 0 to `most`.
     fn to(&mut self, most: usize) -> usize {
-        (self.next() % (most as u64 + 1)) as usize
+        self.random.to(most)
     }
 
     fn pick<T: Copy>(&mut self, choices: &[T]) -> T {
-        choices[self.to(choices.len() - 1)]
+        self.random.pick(choices)
     }
 
     pub fn input(&mut self) -> Input {
@@ -187,7 +179,7 @@ impl Random {
     }
 
     fn change_bytes(&mut self, file: &mut Vec<u8>) {
-        let byte = if self.to(1) == 0 { self.pick(&SPACES) } else { self.next() as u8 };
+        let byte = if self.to(1) == 0 { self.pick(&SPACES) } else { self.random.bits() as u8 };
         let place = self.to(file.len().min(100));
         match self.to(2) {
             0 => file.insert(place, byte),
