@@ -17,8 +17,8 @@ use Rattle.rdp.specs.declared.answer.YesAnswer.{YesAnswer}
 use Rattle.rdp.specs.declared.answer.SamplingAnswer.{SamplingAnswer}
 use Rattle.rdp.specs.declared.answer.TextAnswer.{TextAnswer}
 use Rattle.rdp.specs.declared.answer.RunAnswer.{RunAnswer}
-use Rattle.rdp.specs.View.{answered, loadAnswered, sizeAnswered, splitAnswered, yesAnswered, samplingAnswered, textAnswered, runAnswered}
-use Rattle.rdp.specs.View.{refusalAnswered, tileOf}
+use Rattle.rdp.specs.View.{answered, loadAnswered, sizeAnswered, splitAnswered, yesAnswered, samplingAnswered}
+use Rattle.rdp.specs.View.{textAnswered, runAnswered, refusalAnswered, tileOf}
 
 -- number k of an outcome
 number : ℕ → Outcome → ℕ

@@ -12,8 +12,8 @@ use lib.ListN.{length, take, drop}
 use borrow.Author.Tests.{eqb-true, eq-eqb, ne-eqb, ltb-false, not-false}
 use Rattle.rules.specs.Base.{one, tab, tabFrom, recordOf, same, howMany}
 use Rattle.rules.specs.Refusal.{first}
-use Rattle.rules.specs.Split.{entryLimit, entrySize, captureSize, bodyAt, firstFrom, firstOf, groupsBefore, groupOf, turn, side, sides, total}
-use Rattle.rules.specs.Split.{splitTests, splitCall}
+use Rattle.rules.specs.Split.{entryLimit, entrySize, captureSize, bodyAt, firstFrom, firstOf}
+use Rattle.rules.specs.Split.{groupsBefore, groupOf, turn, side, sides, total, splitTests, splitCall}
 use Rattle.rules.proofs.MadeUp.{how-many-append}
 use Rattle.rules.proofs.Records.{take-drop-take}
 use Rattle.rules.proofs.Refused.{Passed, passed, numbered, done-is}
@@ -176,12 +176,12 @@ unfolding groupOf
 groups-with f i =
     elim (decLt (firstOf f i) i) [
       | yes h ↦
-        let l = groups-order f (firstOf f i) i (first-first f i) h in
-        rw (ne-eqb (groupsBefore f (firstOf f i)) (groupsBefore f i) (λ e. omega arith), add-one i) (sym (groups-stay f i h))
+          let l = groups-order f (firstOf f i) i (first-first f i) h in
+          rw (ne-eqb (groupsBefore f (firstOf f i)) (groupsBefore f i) (λ e. omega arith), add-one i) (sym (groups-stay f i h))
       | no h ↦
-        let e : firstOf f i ≡ i = omega (arith, h, first-within f i) in
-        rw (eq-eqb (groupsBefore f (firstOf f i)) (groupsBefore f i) (ap (groupsBefore f) e), add-one (groupsBefore f i), add-one i)
-        (sym (groups-more f i e))
+          let e : firstOf f i ≡ i = omega (arith, h, first-within f i) in
+          rw (eq-eqb (groupsBefore f (firstOf f i)) (groupsBefore f i) (ap (groupsBefore f) e), add-one (groupsBefore f i), add-one i)
+          (sym (groups-more f i e))
     ]
 
 -- Entries have one group's number exactly when they agree in all but the capture number.

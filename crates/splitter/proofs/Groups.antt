@@ -13,7 +13,8 @@ use lib.Seq.{getD-set-same, getD-set-other}
 use Rattle.rules.specs.Split.{entryLimit, firstOf, groupsBefore, groupOf}
 use Rattle.rules.proofs.Splits.{first-same, first-within, first-least, first-first, same-group, group-same}
 use Rattle.rules.proofs.Splits.{groups-more, groups-stay, groups-most, groups-order, groups-with, one-group, first-group}
-use Rattle.splitter.specs.Way.{bodySize, Asked, asked, link, Ends, slotAfter, Guides, Led, Known, more}
+use Rattle.splitter.specs.Bodies.{bodySize}
+use Rattle.splitter.specs.Way.{Asked, asked, link, Ends, slotAfter, Guides, Led, Known, more}
 use Rattle.splitter.proofs.Ways.{old-led, new-led, more-guides}
 
 module _ (f : ℕ → List ℕ) (i n : ℕ) (firsts : List ℕ) (q : Asked) (kn : Known f i n firsts q) (s : ℕ) (led : Led q (f i) n s) where
@@ -46,14 +47,14 @@ module _ (f : ℕ → List ℕ) (i n : ℕ) (firsts : List ℕ) (q : Asked) (kn 
   begins other =
       elim (decLt (firstOf f i) i) [
         | yes h ↦
-          let g : ℕ = groupOf f i in
-          let b : g < n = omega (arith, groups-order f (firstOf f i) i (first-first f i) h, kn .groups) in
-          let same : f i ≡ f (getD firsts g 0) = sym (group-same f (getD firsts g 0) i (kn .number g b)) in
-          let w = led .passes in
-          let there : slotAfter q (f (getD firsts g 0)) (w .questions) ≡ s =
-          ap (λ m. slotAfter q m (w .questions)) (sym same) ∙ w .there in
-          let is : link q s ≡ g = sym (ap (link q) there) ∙ kn .leads g (w .questions) b (rw there (led .ends)) in
-          absurd (other (same ∙ ap (λ m. f (getD firsts m 0)) (sym is)))
+            let g : ℕ = groupOf f i in
+            let b : g < n = omega (arith, groups-order f (firstOf f i) i (first-first f i) h, kn .groups) in
+            let same : f i ≡ f (getD firsts g 0) = sym (group-same f (getD firsts g 0) i (kn .number g b)) in
+            let w = led .passes in
+            let there : slotAfter q (f (getD firsts g 0)) (w .questions) ≡ s =
+            ap (λ m. slotAfter q m (w .questions)) (sym same) ∙ w .there in
+            let is : link q s ≡ g = sym (ap (link q) there) ∙ kn .leads g (w .questions) b (rw there (led .ends)) in
+            absurd (other (same ∙ ap (λ m. f (getD firsts m 0)) (sym is)))
         | no h ↦ omega (arith, h, first-within f i)
       ]
 
@@ -97,11 +98,11 @@ module _ (f : ℕ → List ℕ) (i n : ℕ) (firsts : List ℕ) (q : Asked) (kn 
         elim (ℕ-discrete h n) [
           | yes z ↦ rw (z, at-new) (new-led q n (kn .guides) (fits room) (f i) s x led k)
           | no z ↦ rw (at-old h z) (
-            old-led q n (kn .guides) (fits room) (f i) s x led (f (getD firsts h 0)) h
-            (λ j. kn .leads h j (omega (arith, z)))
-            (λ e d. differs (sym d ∙ ap (λ m. getD (f (getD firsts m 0)) x 0) e))
-            k
-          )
+              old-led q n (kn .guides) (fits room) (f i) s x led (f (getD firsts h 0)) h
+              (λ j. kn .leads h j (omega (arith, z)))
+              (λ e d. differs (sym d ∙ ap (λ m. getD (f (getD firsts m 0)) x 0) e))
+              k
+              )
         ]
 
     with-question : Known f (i + 1) (groupsBefore f (i + 1)) (set firsts n i) q′

@@ -12,7 +12,8 @@ use lib.ListN.{length, getD, set, length-set}
 use lib.Seq.{getD-set-same, getD-set-other}
 use borrow.Author.Tests.{lt-ltb, le-ltb, eq-eqb, ne-eqb}
 use Rattle.rules.specs.Split.{entryLimit}
-use Rattle.splitter.specs.Way.{bodySize, Asked, link, after, Ends, onward, slotAfter, Passes, Guides, Led}
+use Rattle.splitter.specs.Bodies.{bodySize}
+use Rattle.splitter.specs.Way.{Asked, link, after, Ends, onward, slotAfter, Passes, Guides, Led}
 use Rattle.splitter.specs.Way.{here, onYes, more}
 
 -- both slots after question g are of number g
@@ -105,7 +106,9 @@ module _ (q : Asked) (n : ℕ) (gd : Guides q n) (room : n < entryLimit) (b : Li
   new-after : (m : List ℕ) → after (q′ .places) (q′ .values) m n ≡ cond (eqb (getD m x 0) (getD b x 0)) (2 * n) (2 * n + 1)
   unfolding after
   new-after m =
-      rw (getD-set-same (q .places) n x 0 (omega (arith, gd .places-size)), getD-set-same (q .values) n (getD b x 0) 0 (omega (arith, gd .values-size)))
+      let p = getD-set-same (q .places) n x 0 (omega (arith, gd .places-size)) in
+      let v = getD-set-same (q .values) n (getD b x 0) 0 (omega (arith, gd .values-size)) in
+      rw (p, v)
 
   new-ends : (t : Bool) → Ends q′ (cond t (2 * n) (2 * n + 1))
   new-ends true = omega (arith, yes-link)
@@ -140,6 +143,7 @@ module _ (q : Asked) (n : ℕ) (gd : Guides q n) (room : n < entryLimit) (b : Li
             })
             | no h ↦ inl (ap (onward q′ m) p ∙ old-onward m (slotAfter q m k) (within q m n gd k) h)
           ]
+
       new : New m k → (slotAfter q′ m (suc k) ≡ slotAfter q m (suc k)) ⊎ New m (suc k)
       new w =
           inr (record {
@@ -167,6 +171,7 @@ module _ (q : Asked) (n : ℕ) (gd : Guides q n) (room : n < entryLimit) (b : Li
     where
       old : slotAfter q′ m k ≡ slotAfter q m k → link q′ (slotAfter q′ m k) ≡ h
       old p = let r = old-end m k p f in r .1 .1 ∙ before k (r .1 .0)
+
       new : New m k → link q′ (slotAfter q′ m k) ≡ h
       new w =
           let c : link q e ≡ h = sym (ap (link q) (w .there)) ∙ before (w .came) (rw (w .there) (led .ends)) in
@@ -182,6 +187,7 @@ module _ (q : Asked) (n : ℕ) (gd : Guides q n) (room : n < entryLimit) (b : Li
           let r = old-end b k p f in
           let w = led .passes in
           absurd (r .0 (ends-once q b k (w .questions) (r .1 .0) (rw (w .there) (led .ends)) ∙ w .there))
+
       new : New b k → link q′ (slotAfter q′ b k) ≡ n
       new w = ap (link q′) (w .is ∙ rw (eq-eqb (getD b x 0) (getD b x 0) refl)) ∙ yes-link
 
@@ -204,6 +210,7 @@ module _ (q : Asked) (n : ℕ) (gd : Guides q n) (room : n < entryLimit) (b : Li
             | yes z ↦ rw z (omega (arith, here-link))
             | no z ↦ omega (arith, old-link s h z, gd .below s h)
           ]
+
       below : (s : ℕ) → s < 2 * (n + 1) → link q′ s < n + 1
       below s h =
           elim (decLt s (2 * n)) [
@@ -213,6 +220,7 @@ module _ (q : Asked) (n : ℕ) (gd : Guides q n) (room : n < entryLimit) (b : Li
               | no z ↦ let k : s ≡ 2 * n + 1 = omega (arith, l, z) in rw k (omega (arith, no-link, gd .below e (led .within)))
             ]
           ]
+
       places : (g : ℕ) → g < n + 1 → getD (set (q .places) n x) g 0 < bodySize
       places g h =
           elim (ℕ-discrete g n) [

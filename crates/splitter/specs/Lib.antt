@@ -1,1 +1,3 @@
+-- What the private contracts have in common.
+pub mod Bodies
 pub mod Way

@@ -5,13 +5,11 @@
 use mathlib.Core.Path.{_≡_}
 use mathlib.Core.Bool.{Bool, cond}
 use mathlib.Core.List.{List}
-use Prim.Native.Nat.{ℕ, zero, suc, _+_, _-_, _*_, _/_, _<_, _≤_}
+use Prim.Native.Nat.{ℕ, zero, suc, _+_, _*_, _/_, _<_, _≤_}
 use lib.Dec.{eqb, ltb}
 use lib.ListN.{length, getD, set}
-use Rattle.rules.specs.Split.{entryLimit, entrySize, captureSize, groupsBefore, groupOf}
-
-abbrev pub bodySize : ℕ
-bodySize = entrySize - captureSize
+use Rattle.rules.specs.Split.{entryLimit, groupsBefore, groupOf}
+use Rattle.splitter.specs.Bodies.{bodySize}
 
 pub record Asked : Type 0 where
   pub links : List ℕ

@@ -3,7 +3,8 @@ ghost use mathlib.Core.Path.{_≡_};
 ghost use Prim.Native.Nat.{_*_, _<_};
 ghost use lib.ListN.{length, getD};
 ghost use Rattle.rules.specs.Split.{entryLimit};
-ghost use Rattle.splitter.specs.Way.{bodySize, asked, after, Guides, Led, more};
+ghost use Rattle.splitter.specs.Bodies.{bodySize};
+ghost use Rattle.splitter.specs.Way.{asked, after, Guides, Led, more};
 
 // The slot after question g: an even one on a yes.
 fn slot_after(body: &[u8], places: &[u16], values: &[u8], g: usize) -> usize
@@ -20,7 +21,13 @@ fn slot_after(body: &[u8], places: &[u16], values: &[u8], g: usize) -> usize
 }
 
 // The slot where the way of a body ends, of `groups` groups.
-pub(crate) fn lead(body: &[u8], links: &[u16], places: &[u16], values: &[u8], groups: usize) -> usize
+pub(crate) fn lead(
+    body: &[u8],
+    links: &[u16],
+    places: &[u16],
+    values: &[u8],
+    groups: usize,
+) -> usize
     requires { ⌜ length (now body) ≡ bodySize ⌝ }
     requires { ⌜ Guides (asked (now links) (now places) (now values)) groups ⌝ }
     ensures { λ r. ⌜ Led (asked (now (links .entry)) (now (places .entry)) (now (values .entry))) (now (body .entry)) groups r ⌝ }

@@ -4,7 +4,7 @@ use Prim.Native.Nat.{ℕ, _+_, _-_, _*_}
 use native.Mathlib.Omega.{arith}
 use lib.ListN.{take, drop}
 use Rattle.rules.specs.Split.{entrySize, captureSize}
-use Rattle.splitter.specs.Way.{bodySize}
+use Rattle.splitter.specs.Bodies.{bodySize}
 use Rattle.splitter.proofs.Bodies.{body-part}
 use borrow.Author.Needs.{needs}
 use Rattle.splitter.proofs.entry.body_at.Statement.{statement}

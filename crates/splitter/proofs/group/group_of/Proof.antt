@@ -5,7 +5,8 @@ use Prim.Native.Nat.{ℕ, _+_, _*_, _<_, _≤_}
 use native.Mathlib.Omega.{arith}
 use lib.ListN.{length, getD}
 use Rattle.rules.specs.Split.{entryLimit, entrySize, bodyAt}
-use Rattle.splitter.specs.Way.{bodySize, Asked, asked, link, Led}
+use Rattle.splitter.specs.Bodies.{bodySize}
+use Rattle.splitter.specs.Way.{Asked, asked, link, Led}
 use Rattle.splitter.proofs.Bodies.{body-length, bodies-same}
 use Rattle.splitter.proofs.Groups.{below, fits, old-group, old-known, new-group, new-known}
 use borrow.Author.Needs.{needs}
@@ -57,8 +58,8 @@ same : (c : tie.Then1) → let l = c .before .before .before .before .before in 
 same c =
     let d = c .before in
     let l = d .before .before .before .before in
-    let e = rw (d .before .before .before .before .before .before .before .before .body-at .ensures, d .before .body-at2 .ensures, c .if1 .taken) at
-    (d .differ .ensures .1 .0) in
+    let own = l .before .before .before .before .body-at .ensures in
+    let e = rw (own, d .before .body-at2 .ensures, c .if1 .taken) at (d .differ .ensures .1 .0) in
     bodies-same _ _ (own-length (start l)) (first-length l) e
 
 -- another body: there is room for its group, and a place where it differs
@@ -163,11 +164,10 @@ returns-2 c =
     let s = start l in
     let place = e .before .differ .result in
     let kn = s .pre .1 .1 in
-    let d = differs (e .before) (place-inside e) in
-    (
+    let d = differs (e .before) (place-inside e) in (
       new-group _ _ _ _ _ kn _ (led l) place (s .pre .0) (place-inside e) d,
       new-known _ _ _ _ _ kn _ (led l) place (s .pre .0) (place-inside e) d _ _
-      (l .before .before .before .before .body-at .ensures) (a .ask .ensures),
+          (l .before .before .before .before .body-at .ensures) (a .ask .ensures),
     )
 
 pub group-of-spec : {M : Type 1} → statement M

@@ -35,7 +35,9 @@ unfolding splitCall
 returns c = refused-is _ _ _ _ _ (c .before .split-refusal .ensures) (c .if1 .taken)
 
 write-sides-requires : tie.Need-write-sides-requires
-write-sides-requires c κs = let t = all (c .before) in (omega (arith, t .most, t .sides-size), omega (arith, t .entries-size, t .sides-size))
+write-sides-requires c κs =
+    let t = all (c .before) in
+    (omega (arith, t .most, t .sides-size), omega (arith, t .entries-size, t .sides-size))
 
 sub-t11 : tie.Need-sub-t11
 sub-t11 c =

@@ -52,8 +52,7 @@ loop-holds : tie.Need-loop-holds Inv-loop μ-loop
 loop-holds c =
     let a = c .before .before .before in
     let f = bodyAt (a .args .entries .now) in
-    let some : 0 < length (a .args .out .now) = omega (arith, c .if1 .left) in
-    (
+    let some : 0 < length (a .args .out .now) = omega (arith, c .if1 .left) in (
       omega arith,
       rw length-set some,
       refl,
@@ -107,8 +106,8 @@ add-i c =
 
 loop-less : tie.Need-loop-less Inv-loop μ-loop
 loop-less c =
-    let t = c .before .before .before .before .before .before .before .before .before .before .before .before in
-    rw length-set (omega (arith, c .before .before .before .before .before .before .before .before .before .before .before .loop-test .taken))
+    let b = c .before .before .before .before .before .before .before .before .before .before .before in
+    rw length-set (omega (arith, b .loop-test .taken))
 
 loop-again : tie.Need-loop-again Inv-loop μ-loop
 loop-again c =
@@ -117,8 +116,7 @@ loop-again c =
     let g = c .before .before .before .before .before .before .group-of in
     let f = bodies t in
     let here = c .before .before .before .before .before .before .before .before .before .before .before .loop-test .taken in
-    let side = c .side-of .ensures ∙ ap turn (g .ensures .0) in
-    (
+    let side = c .side-of .ensures ∙ ap turn (g .ensures .0) in (
       omega arith,
       rw length-set (omega arith),
       length-set (l .out) (l .i) (c .side-of .result) ∙ l .inv .2,
@@ -135,8 +133,7 @@ returns-2 c =
     let t = c .before in
     let l = t .loop in
     let end : l .i ≡ length (start t .args .out .now) = omega (arith, size t) in
-    let f = bodies t in
-    (
+    let f = bodies t in (
       sym (take-all (l .i) (l .out) (omega arith)) ∙ l .inv .3 ∙ ap (sides f) end,
       l .inv .4 ∙ ap (λ n. total 1 (sides f n)) end,
     )

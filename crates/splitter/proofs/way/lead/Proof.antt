@@ -44,13 +44,15 @@ loop-less : tie.Need-loop-less Inv-loop μ-loop
 loop-less c =
     let a = c .before .before .before .before .before .before .before .before in
     let l = c .before .before .before .loop in
-    omega (arith, half-after (a .args .places .now) (a .args .values .now) (a .args .body .now) (getD (a .args .links .now) (l .slot) 0), c .slot-after .ensures, a .pre .1 .below (l .slot) (l .inv .0))
+    let half = half-after (a .args .places .now) (a .args .values .now) (a .args .body .now) (getD (a .args .links .now) (l .slot) 0) in
+    omega (arith, half, c .slot-after .ensures, a .pre .1 .below (l .slot) (l .inv .0))
 
 loop-again : tie.Need-loop-again Inv-loop μ-loop
 loop-again c =
     let a = c .before .before .before .before .before .before .before .before in
     let l = c .before .before .before .loop in
-    rw (c .slot-after .ensures) (after-within _ _ _ _ _ (a .pre .1 .below (l .slot) (l .inv .0)), passes-on _ _ (l .slot) (l .inv .1) (c .before .if1 .left))
+    let below = a .pre .1 .below (l .slot) (l .inv .0) in
+    rw (c .slot-after .ensures) (after-within _ _ _ _ _ below, passes-on _ _ (l .slot) (l .inv .1) (c .before .if1 .left))
 
 pub lead-spec : {M : Type 1} → statement M
 lead-spec =
