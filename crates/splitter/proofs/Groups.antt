@@ -11,7 +11,7 @@ use lib.Dec.{eqb}
 use lib.ListN.{getD, set, length-set, replicate, length-replicate}
 use lib.Seq.{getD-set-same, getD-set-other}
 use Rattle.rules.specs.Split.{entryLimit, firstOf, groupsBefore, groupOf}
-use Rattle.rules.proofs.Splits.{first-same, first-within, first-least, first-first, same-group, group-same}
+use Rattle.rules.proofs.Splits.{first-within, first-least, first-first, same-group, group-same}
 use Rattle.rules.proofs.Splits.{groups-more, groups-stay, groups-most, groups-order, groups-with, one-group, first-group}
 use Rattle.splitter.specs.Bodies.{bodySize}
 use Rattle.splitter.specs.Way.{Asked, asked, link, Ends, slotAfter, Guides, Led, Known, more}

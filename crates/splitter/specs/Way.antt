@@ -3,7 +3,7 @@
 -- asked there; else the way ends there, and it is the group. After question g a body is at slot 2·g on a yes, and at the next on a no.
 -- It starts at slot 0.
 use mathlib.Core.Path.{_≡_}
-use mathlib.Core.Bool.{Bool, cond}
+use mathlib.Core.Bool.{cond}
 use mathlib.Core.List.{List}
 use Prim.Native.Nat.{ℕ, zero, suc, _+_, _*_, _/_, _<_, _≤_}
 use lib.Dec.{eqb, ltb}

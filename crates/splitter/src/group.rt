@@ -1,10 +1,9 @@
 // The group of an entry: one that is known, or a new one.
 ghost use mathlib.Core.Path.{_≡_};
 ghost use Prim.Native.Nat.{_+_, _*_, _<_, _≤_};
-ghost use lib.ListN.{length, getD};
+ghost use lib.ListN.{length};
 ghost use Rattle.rules.specs.Split.{entryLimit, entrySize, bodyAt, groupsBefore, groupOf};
-ghost use Rattle.splitter.specs.Bodies.{bodySize};
-ghost use Rattle.splitter.specs.Way.{asked, Led, Known};
+ghost use Rattle.splitter.specs.Way.{asked, Known};
 use crate::entry::BODY_SIZE;
 use crate::entry::body_at;
 use crate::entry::differ;

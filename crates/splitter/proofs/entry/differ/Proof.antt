@@ -1,5 +1,4 @@
 -- `splitter::entry::differ` stops at the first bytes that differ. The loop's invariant: all bytes passed are the same. Assumes nothing.
-use mathlib.Core.Path.{_≡_}
 use Prim.Native.Nat.{_≤_, _-_}
 use native.Mathlib.Omega.{arith}
 use borrow.Author.Needs.{needs}

@@ -1,5 +1,4 @@
 -- `splitter::entry::same_blocks` passes over the blocks that are the same. The loop's invariant: all bytes passed are. Assumes nothing.
-use mathlib.Core.Path.{_≡_}
 use Prim.Native.Nat.{_-_, _≤_}
 use native.Mathlib.Omega.{arith}
 use borrow.Author.Needs.{needs}

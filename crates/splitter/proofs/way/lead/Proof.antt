@@ -1,8 +1,6 @@
 -- `splitter::way::lead` goes the way of a body. The loop's invariant: the slot is one of this way. Assumes nothing.
-use mathlib.Core.Path.{_≡_}
 use Prim.Native.Nat.{_<_, _*_, _/_, _-_}
 use native.Mathlib.Omega.{arith}
-use borrow.Author.Needs.{needs}
 use lib.ListN.{getD}
 use Rattle.splitter.specs.Way.{asked, Passes}
 use Rattle.splitter.proofs.Ways.{half-after, after-within, starts, passes-on}

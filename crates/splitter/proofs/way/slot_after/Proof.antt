@@ -1,6 +1,4 @@
 -- `splitter::way::slot_after` asks one question. Assumes nothing.
-use mathlib.Core.Path.{_≡_}
-use native.Mathlib.Omega.{arith}
 use borrow.Author.Tests.{eq-eqb, ne-eqb}
 use Rattle.splitter.specs.Way.{after}
 use borrow.Author.Needs.{needs}
