@@ -1,34 +1,47 @@
--- `reach::lane::slot_uneven`: a slot that is the same number turned by a pair has one pair four times. Assumes nothing.
-use Prim.Native.Nat.{ℕ, _+_, _*_, _/_, _%_, _<_, _^_}
-use native.Mathlib.Omega.{arith}
+-- `reach::lane::slot_uneven` leaves at the first pair that differs: each return rewrites by the tests that led there. Assumes
+-- nothing.
+use mathlib.Core.Path.{sym, _∙_}
+use mathlib.Core.Bool.{or-false}
 use borrow.Author.Needs.{needs}
-use Rattle.reach.specs.Slots.{pairs}
-use Rattle.reach.proofs.Turned.{turned, turned-uneven}
+use Rattle.rules.specs.Base.{any}
+use Rattle.rules.specs.Reach.{uneven}
 use Rattle.reach.proofs.lane.slot_uneven.Statement.{statement}
 use Rattle.reach.proofs.lane.slot_uneven.Tie as tie
 
-slot-requires : tie.Need-slot-requires
-slot-requires c κs = search needs
-
-mul-result : tie.Need-mul-result
-mul-result c = search needs
-
-turned-fits : (n : ℕ) → n < 2 ^ 64 → turned n < 2 ^ 64
-turned-fits n h = go (n / pairs) (n % pairs) (omega arith) (omega arith)
-  where
-    go : (a b : ℕ) → a < pairs ^ 3 → b < pairs → a + pairs ^ 3 * b < 2 ^ 64
-    go a b p q = omega arith
-
-add-result : tie.Need-add-result
-add-result c =
-    let h : c .slot .result < 2 ^ 64 = omega arith in
-    record { fits = turned-fits (c .slot .result) h }
+pair-differs-requires : tie.Need-pair-differs-requires
+pair-differs-requires c κs = search needs
 
 returns : tie.Need-returns
-returns c =
-    let d = c .before in
-    let a = d .before .args in
-    rw (c .slot .ensures) (turned-uneven (a .bank .now) (a .j) (λ k. omega (arith, d .shared-slice-known .given k)))
+unfolding uneven any
+returns c = rw (sym (c .before .pair-differs .ensures) ∙ c .if1 .taken)
+
+pair-differs-requires-2 : tie.Need-pair-differs-requires-2
+pair-differs-requires-2 c κs = search needs
+
+returns-2 : tie.Need-returns-2
+unfolding uneven any
+returns-2 c =
+    let d = c .before .before in
+    rw (sym (d .before .pair-differs .ensures) ∙ d .if1 .left, sym (c .before .pair-differs2 .ensures) ∙ c .if2 .taken)
+
+pair-differs-requires-3 : tie.Need-pair-differs-requires-3
+pair-differs-requires-3 c κs = search needs
+
+returns-3 : tie.Need-returns-3
+unfolding uneven any
+returns-3 c =
+    let e = c .before in
+    let d = e .before .before in
+    rw (sym (d .before .pair-differs .ensures) ∙ d .if1 .left, sym (e .before .pair-differs2 .ensures) ∙ e .if2 .left, or-false)
+    (c .pair-differs3 .ensures)
 
 pub slot-uneven-spec : {M : Type 1} → statement M
-slot-uneven-spec = tie.close (tie.spec slot-requires mul-result add-result returns)
+slot-uneven-spec =
+    tie.close
+    (tie.spec
+    pair-differs-requires
+    returns
+    pair-differs-requires-2
+    returns-2
+    pair-differs-requires-3
+    returns-3)
