@@ -276,16 +276,21 @@ impl Bench {
         println!("| {name} | {cells} |");
     }
 
+    /// Banks of which no slot is uneven, all are, and a half without a pattern, each at one of its bytes.
     fn lanes(&mut self) {
         let even = [7; 4096];
-        for (name, bank) in [("lane check, no slot uneven", even), ("lane check, all uneven", self.bank)] {
+        let mut half = even;
+        for (slot, byte) in half[2048..].chunks_exact_mut(8).zip(bytes(256)) {
+            slot[2 + usize::from(byte) % 6] ^= byte >> 7;
+        }
+        for (name, bank) in [("no slot uneven", even), ("all uneven", self.bank), ("a random half uneven", half)] {
             let mut map = [0; 32];
             let pair = race(
                 self.rounds,
                 || used(calls::palette_nonreplicated(black_box(&bank))),
                 || slices::palette_nonreplicated(black_box(&bank), black_box(&mut map)).expect("in range"),
             );
-            self.row(name.to_string(), pair);
+            self.row(format!("lane check, {name}"), pair);
         }
     }
 
