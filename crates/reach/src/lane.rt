@@ -1,4 +1,5 @@
 // The lane check: which slots of the palette do not have one pair of bytes four times.
+ghost use mathlib.Core.Bool.{cond};
 ghost use mathlib.Core.List.{[], _∷_};
 ghost use mathlib.Core.Path.{_≡_};
 ghost use Prim.Native.Nat.{_+_, _*_, _<_};
@@ -8,7 +9,7 @@ ghost use Rattle.rules.specs.Reach.{pairDiffers, uneven, laneMap};
 ghost use Rattle.rules.specs.Refusal.{first};
 ghost use Rattle.rules.specs.Tile.{bankSize, laneMapSize};
 ghost use Rattle.rdp.specs.View.{refusalAnswered};
-ghost use Rattle.reach.specs.Slots.{slotBit, slotsByte};
+ghost use Rattle.reach.specs.Slots.{slotsByte};
 use rdp::refusal;
 use tmem::bank::Bank;
 
@@ -33,32 +34,23 @@ fn pair_differs(bank: &[u8], j: usize, p: usize) -> bool
     number(bank[at], bank[at + 1]) != number(bank[first], bank[first + 1])
 }
 
-// The slot's pairs are not all one. It is left at the first that differs.
-fn slot_uneven(bank: &[u8], j: usize) -> bool
+// The byte of a map after slot j: marked where the slot's pairs are not all one, else as it was. The slot is left at the first
+// pair that differs. (A test that answered yes or no would make the compiler keep eight answers at once, some on the stack.)
+fn after_slot(bank: &[u8], j: usize, marked: u8, bits: u8) -> u8
     requires { ⌜ length (now bank) ≡ bankSize ⌝ }
     requires { ⌜ j < 256 ⌝ }
-    ensures { λ r. ⌜ r ≡ uneven (now (bank .entry)) j ⌝ }
+    ensures { λ r. ⌜ r ≡ cond (uneven (now (bank .entry)) j) marked bits ⌝ }
 {
     if pair_differs(bank, j, 1) {
-        return true;
+        return marked;
     }
     if pair_differs(bank, j, 2) {
-        return true;
+        return marked;
     }
-    pair_differs(bank, j, 3)
-}
-
-// The slot's bit in its byte of the lane map, where it is uneven.
-fn slot_bit(bank: &[u8], j: usize) -> u8
-    requires { ⌜ length (now bank) ≡ bankSize ⌝ }
-    requires { ⌜ j < 256 ⌝ }
-    ensures { λ r. ⌜ r ≡ slotBit (now (bank .entry)) j ⌝ }
-{
-    if slot_uneven(bank, j) {
-        1u8 << j % 8
-    } else {
-        0
+    if pair_differs(bank, j, 3) {
+        return marked;
     }
+    bits
 }
 
 // Byte i of the lane map: a bit for each of eight slots.
@@ -69,7 +61,8 @@ fn slots_byte(bank: &[u8], i: usize) -> u8
 {
     let mut bits = 0u8;
     for k in 0..8 {
-        bits = bits | slot_bit(bank, 8 * i + k);
+        let marked = bits | 1u8 << k;
+        bits = after_slot(bank, 8 * i + k, marked, bits);
     }
     bits
 }
