@@ -58,6 +58,15 @@ fn bytes(count: usize) -> Vec<u8> {
     std::iter::repeat_with(next).take(count).collect()
 }
 
+/// A bank whose slot is uneven, at one of its bytes, where its pick is above 127.
+fn uneven_at(picks: &[u8]) -> [u8; 4096] {
+    let mut bank = [7; 4096];
+    for (slot, pick) in bank[2048..].chunks_exact_mut(8).zip(picks) {
+        slot[2 + usize::from(*pick) % 6] ^= pick >> 7;
+    }
+    bank
+}
+
 fn descriptor(tile: &Tile) -> TileDescriptor {
     TileDescriptor {
         fmt: tile.fmt as u8,
@@ -276,19 +285,24 @@ impl Bench {
         println!("| {name} | {cells} |");
     }
 
-    /// Banks of which no slot is uneven, all are, and a half without a pattern, each at one of its bytes.
+    /// One bank again and again, whose slots the processor learns to foretell; or many in turn.
     fn lanes(&mut self) {
-        let even = [7; 4096];
-        let mut half = even;
-        for (slot, byte) in half[2048..].chunks_exact_mut(8).zip(bytes(256)) {
-            slot[2 + usize::from(byte) % 6] ^= byte >> 7;
-        }
-        for (name, bank) in [("no slot uneven", even), ("all uneven", self.bank), ("a random half uneven", half)] {
+        let halves: Vec<_> = bytes(64 * 256).chunks_exact(256).map(uneven_at).collect();
+        for (name, banks) in [
+            ("no slot uneven", &[[7; 4096]][..]),
+            ("all uneven", &[self.bank]),
+            ("a random half uneven", &halves[..1]),
+            ("a random half uneven, 64 banks in turn", &halves),
+        ] {
+            let (mut old, mut new) = (banks.iter().cycle(), banks.iter().cycle());
             let mut map = [0; 32];
             let pair = race(
                 self.rounds,
-                || used(calls::palette_nonreplicated(black_box(&bank))),
-                || slices::palette_nonreplicated(black_box(&bank), black_box(&mut map)).expect("in range"),
+                || used(calls::palette_nonreplicated(black_box(old.next().expect("a bank")))),
+                || {
+                    let bank = black_box(new.next().expect("a bank"));
+                    slices::palette_nonreplicated(bank, black_box(&mut map)).expect("in range");
+                },
             );
             self.row(format!("lane check, {name}"), pair);
         }
