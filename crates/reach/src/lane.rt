@@ -35,7 +35,7 @@ fn pair_differs(bank: &[u8], j: usize, p: usize) -> bool
 }
 
 // The byte of a map after slot j: marked where the slot's pairs are not all one, else as it was. The slot is left at the first
-// pair that differs. (A test that answered yes or no would make the compiler keep eight answers at once, some on the stack.)
+// pair that differs. (With a yes or no for each slot the x86-64 code held eight answers, and saved registers on the stack for them.)
 fn after_slot(bank: &[u8], j: usize, marked: u8, bits: u8) -> u8
     requires { ⌜ length (now bank) ≡ bankSize ⌝ }
     requires { ⌜ j < 256 ⌝ }
