@@ -73,6 +73,15 @@ fn entries(change: impl Fn(usize, &mut [u8])) -> Vec<u8> {
     (0..split::MOST as usize).flat_map(next).collect()
 }
 
+/// A bank whose slot is uneven, at one of its bytes, where its pick is above 127.
+fn uneven_at(picks: &[u8]) -> [u8; 4096] {
+    let mut bank = [7; 4096];
+    for (slot, pick) in bank[2048..].chunks_exact_mut(8).zip(picks) {
+        slot[2 + usize::from(*pick) % 6] ^= pick >> 7;
+    }
+    bank
+}
+
 fn descriptor(tile: &Tile) -> TileDescriptor {
     TileDescriptor {
         fmt: tile.fmt as u8,
@@ -291,16 +300,26 @@ impl Bench {
         println!("| {name} | {cells} |");
     }
 
+    /// One bank again and again, whose slots the processor learns to foretell; or many in turn.
     fn lanes(&mut self) {
-        let even = [7; 4096];
-        for (name, bank) in [("lane check, no slot uneven", even), ("lane check, all uneven", self.bank)] {
+        let halves: Vec<_> = bytes(64 * 256).chunks_exact(256).map(uneven_at).collect();
+        for (name, banks) in [
+            ("no slot uneven", &[[7; 4096]][..]),
+            ("all uneven", &[self.bank]),
+            ("a random half uneven", &halves[..1]),
+            ("a random half uneven, 64 banks in turn", &halves),
+        ] {
+            let (mut old, mut new) = (banks.iter().cycle(), banks.iter().cycle());
             let mut map = [0; 32];
             let pair = race(
                 self.rounds,
-                || used(calls::palette_nonreplicated(black_box(&bank))),
-                || slices::palette_nonreplicated(black_box(&bank), black_box(&mut map)).expect("in range"),
+                || used(calls::palette_nonreplicated(black_box(old.next().expect("a bank")))),
+                || {
+                    let bank = black_box(new.next().expect("a bank"));
+                    slices::palette_nonreplicated(bank, black_box(&mut map)).expect("in range");
+                },
             );
-            self.row(name.to_string(), pair);
+            self.row(format!("lane check, {name}"), pair);
         }
     }
 

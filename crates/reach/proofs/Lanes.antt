@@ -5,7 +5,7 @@ use mathlib.Core.List.{List, [], _∷_, _++_, append-assoc, append-nil}
 use Prim.Native.Nat.{ℕ, zero, suc, _+_, _-_, _*_, _%_, _^_, _<_, _≤_}
 use native.Mathlib.Numerals.{add-one}
 use native.Mathlib.Omega.{arith}
-use lib.Bits.{or-zero-l}
+use lib.Bits.{bitOr, or-zero-l, or-zero-r}
 use lib.ListN.{length, replicate}
 use Rattle.rules.specs.Base.{tab, tabFrom, concat, marks}
 use Rattle.rules.specs.Tile.{laneMapSize}
@@ -13,7 +13,7 @@ use Rattle.rules.specs.Reach.{uneven, unevenSlots, laneMap}
 use Rattle.rules.proofs.Tables.{tab-more, length-tab}
 use Rattle.reach.specs.Words.{joined}
 use Rattle.reach.specs.Slots.{slotBit, slotsByte}
-use Rattle.reach.proofs.Bytes.{joined-none, joined-more, marked-word}
+use Rattle.reach.proofs.Bytes.{bit-shifted, joined-none, joined-more, marked-word}
 use Rattle.reach.proofs.Words.{part-marks}
 
 -- the rule's list of slot j
@@ -51,6 +51,18 @@ module _ (bank : List ℕ) where
       go : (b : Bool) → marks m (cond b ((8 * i + k) ∷ []) []) ≡ joined m i (cond b (2 ^ k) 0)
       go true = marked-word m i k h
       go false = sym (joined-none m i)
+
+  -- a slot that is uneven sets its bit in the byte of eight, and another leaves the byte
+  pub next-slot : (i k bits : ℕ) → k < 8 → cond (uneven bank (8 * i + k)) (bitOr bits (1 * 2 ^ k % 2 ^ 8)) bits
+      ≡ bitOr bits (slotBit bank (8 * i + k))
+  unfolding slotBit
+  next-slot i k bits h =
+      let bit : (8 * i + k) % 8 ≡ k = omega arith in
+      rw (bit, bit-shifted k 8 h) (go (uneven bank (8 * i + k)))
+    where
+      go : (b : Bool) → cond b (bitOr bits (2 ^ k)) bits ≡ bitOr bits (cond b (2 ^ k) 0)
+      go true = refl
+      go false = sym (or-zero-r bits)
 
   -- eight slots more are one byte more
   slots-marks : (m : List ℕ) (n : ℕ) → marks m (concat (tab (8 * n + 8) (marksOf bank)))

@@ -7,6 +7,6 @@ pub mod Words
 pub mod Axes
 pub mod Spans
 pub mod Reached
-pub mod Turned
+pub mod Pairs
 pub mod Lanes
 pub mod One

@@ -1,81 +1,56 @@
 // The lane check: which slots of the palette do not have one pair of bytes four times.
+ghost use mathlib.Core.Bool.{cond};
 ghost use mathlib.Core.List.{[], _∷_};
 ghost use mathlib.Core.Path.{_≡_};
-ghost use Prim.Native.Nat.{_<_};
+ghost use Prim.Native.Nat.{_+_, _*_, _<_};
 ghost use lib.ListN.{length};
 ghost use Rattle.rules.specs.Calls.{laneTests, laneCall};
-ghost use Rattle.rules.specs.Reach.{uneven, laneMap};
+ghost use Rattle.rules.specs.Reach.{pairDiffers, uneven, laneMap};
 ghost use Rattle.rules.specs.Refusal.{first};
 ghost use Rattle.rules.specs.Tile.{bankSize, laneMapSize};
 ghost use Rattle.rdp.specs.View.{refusalAnswered};
-ghost use Rattle.reach.specs.Slots.{pairs, pairNumber, slotNumber, slotBit, slotsByte};
+ghost use Rattle.reach.specs.Slots.{slotsByte};
 use rdp::refusal;
 use tmem::bank::Bank;
 
 // The bytes of a lane map: a bit for each slot, and a slot is eight bytes of the palette.
 const MAP_SIZE: usize = (Bank::SIZE - Bank::PALETTE_BASE) / 64;
 
-// What the second pair of a slot counts in its number, where the first counts 1.
-const SECOND: u64 = 0x1_0000;
-
-// The third.
-const THIRD: u64 = 0x1_0000_0000;
-
-// The fourth.
-const FOURTH: u64 = 0x1_0000_0000_0000;
-
-// A byte as a number that can be multiplied.
-fn wide(byte: u8) -> u64
-    ensures { λ r. ⌜ r ≡ byte ⌝ }
-    ensures { λ r. ⌜ r < 256 ⌝ }
+// Two bytes as one number, which the processor compares at once.
+fn number(low: u8, high: u8) -> u32
+    ensures { λ r. ⌜ r ≡ low + 256 * high ⌝ }
 {
-    byte as u64
+    low as u32 + 256 * (high as u32)
 }
 
-// Pair p of slot j as one number, its first byte lowest.
-fn pair(bank: &[u8], j: usize, p: usize) -> u64
+// Pair p of slot j differs from the slot's first. Both are compared where they stand.
+fn pair_differs(bank: &[u8], j: usize, p: usize) -> bool
     requires { ⌜ length (now bank) ≡ bankSize ⌝ }
     requires { ⌜ (j < 256) × (p < 4) ⌝ }
-    ensures { λ r. ⌜ r ≡ pairNumber (now (bank .entry)) j p ⌝ }
-    ensures { λ r. ⌜ r < pairs ⌝ }
+    ensures { λ r. ⌜ r ≡ pairDiffers (now (bank .entry)) j p ⌝ }
 {
-    let at = Bank::PALETTE_BASE + 8 * j + 2 * p;
-    wide(bank[at]) + 256 * wide(bank[at + 1])
+    let first = Bank::PALETTE_BASE + 8 * j;
+    let at = first + 2 * p;
+    number(bank[at], bank[at + 1]) != number(bank[first], bank[first + 1])
 }
 
-// Slot j as one number, its first pair lowest.
-fn slot(bank: &[u8], j: usize) -> u64
+// The byte of a map after slot j: marked where the slot's pairs are not all one, else as it was. The slot is left at the first
+// pair that differs. (With a yes or no for each slot the x86-64 code held eight answers, and saved registers on the stack for them.)
+fn after_slot(bank: &[u8], j: usize, marked: u8, bits: u8) -> u8
     requires { ⌜ length (now bank) ≡ bankSize ⌝ }
     requires { ⌜ j < 256 ⌝ }
-    ensures { λ r. ⌜ r ≡ slotNumber (now (bank .entry)) j ⌝ }
+    ensures { λ r. ⌜ r ≡ cond (uneven (now (bank .entry)) j) marked bits ⌝ }
 {
-    pair(bank, j, 0)
-        + SECOND * pair(bank, j, 1)
-        + THIRD * pair(bank, j, 2)
-        + FOURTH * pair(bank, j, 3)
-}
-
-// Its pairs are not all one: turned by a pair, it is another number.
-fn slot_uneven(bank: &[u8], j: usize) -> bool
-    requires { ⌜ length (now bank) ≡ bankSize ⌝ }
-    requires { ⌜ j < 256 ⌝ }
-    ensures { λ r. ⌜ r ≡ uneven (now (bank .entry)) j ⌝ }
-{
-    let all = slot(bank, j);
-    all / SECOND + FOURTH * (all % SECOND) != all
-}
-
-// The slot's bit in its byte of the lane map, where it is uneven.
-fn slot_bit(bank: &[u8], j: usize) -> u8
-    requires { ⌜ length (now bank) ≡ bankSize ⌝ }
-    requires { ⌜ j < 256 ⌝ }
-    ensures { λ r. ⌜ r ≡ slotBit (now (bank .entry)) j ⌝ }
-{
-    if slot_uneven(bank, j) {
-        1u8 << j % 8
-    } else {
-        0
+    if pair_differs(bank, j, 1) {
+        return marked;
     }
+    if pair_differs(bank, j, 2) {
+        return marked;
+    }
+    if pair_differs(bank, j, 3) {
+        return marked;
+    }
+    bits
 }
 
 // Byte i of the lane map: a bit for each of eight slots.
@@ -86,7 +61,8 @@ fn slots_byte(bank: &[u8], i: usize) -> u8
 {
     let mut bits = 0u8;
     for k in 0..8 {
-        bits = bits | slot_bit(bank, 8 * i + k);
+        let marked = bits | 1u8 << k;
+        bits = after_slot(bank, 8 * i + k, marked, bits);
     }
     bits
 }

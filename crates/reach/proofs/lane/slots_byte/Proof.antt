@@ -1,12 +1,13 @@
 -- `reach::lane::slots_byte` joins slot after slot. The loop's invariant: the bits are those of the slots below k. Assumes
 -- nothing.
-use mathlib.Core.Path.{_≡_}
+use mathlib.Core.Path.{_≡_, _∙_}
 use Prim.Native.Nat.{_+_, _-_, _*_, _≤_}
 use native.Mathlib.Numerals.{add-one}
 use native.Mathlib.Omega.{arith}
 use borrow.Author.Needs.{needs}
 use Rattle.reach.specs.Words.{ors}
 use Rattle.reach.specs.Slots.{slotBit, slotsByte}
+use Rattle.reach.proofs.Lanes.{next-slot}
 use Rattle.reach.proofs.lane.slots_byte.Statement.{statement}
 use Rattle.reach.proofs.lane.slots_byte.Tie as tie
 
@@ -20,14 +21,20 @@ loop-holds : tie.Need-loop-holds Inv-loop μ-loop
 unfolding ors
 loop-holds c = search needs
 
-mul-slot-bit : tie.Need-mul-slot-bit Inv-loop μ-loop
-mul-slot-bit c = search needs
+cast-marked : tie.Need-cast-marked Inv-loop μ-loop
+cast-marked c = search needs
 
-add-slot-bit : tie.Need-add-slot-bit Inv-loop μ-loop
-add-slot-bit c = search needs
+shl-marked : tie.Need-shl-marked Inv-loop μ-loop
+shl-marked c = search needs
 
-slot-bit-requires : tie.Need-slot-bit-requires Inv-loop μ-loop
-slot-bit-requires c κs = search needs
+mul-after-slot : tie.Need-mul-after-slot Inv-loop μ-loop
+mul-after-slot c = search needs
+
+add-after-slot : tie.Need-add-after-slot Inv-loop μ-loop
+add-after-slot c = search needs
+
+after-slot-requires : tie.Need-after-slot-requires Inv-loop μ-loop
+after-slot-requires c κs = search needs
 
 add-k : tie.Need-add-k Inv-loop μ-loop
 add-k c = search needs
@@ -37,7 +44,10 @@ loop-less c = search needs
 
 loop-again : tie.Need-loop-again Inv-loop μ-loop
 unfolding ors
-loop-again c = (search needs, rw (add-one, c .slot-bit .ensures, c .before .before .loop .inv .1))
+loop-again c =
+    let l = c .before .before .loop in
+    let a = c .before .before .before .before .args in
+    (search needs, c .after-slot .ensures ∙ next-slot (a .bank .now) (a .i) (l .k) (l .bits) (omega arith) ∙ rw (add-one, l .inv .1))
 
 returns : tie.Need-returns Inv-loop μ-loop
 unfolding slotsByte
@@ -52,9 +62,11 @@ slots-byte-spec =
     Inv-loop
     μ-loop
     loop-holds
-    mul-slot-bit
-    add-slot-bit
-    slot-bit-requires
+    cast-marked
+    shl-marked
+    mul-after-slot
+    add-after-slot
+    after-slot-requires
     add-k
     loop-less
     loop-again
