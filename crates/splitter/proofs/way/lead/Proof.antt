@@ -30,7 +30,7 @@ cast-next c = omega (arith, c .shared-slice-known5 .given (c .before .loop .slot
 returns : tie.Need-returns Inv-loop μ-loop
 returns c =
     let l = c .before .before .loop in
-    record { within = l .inv .0; ends = c .if1 .taken; passes = l .inv .1 }
+    record { within = l .inv .0; ends = omega (arith, c .if1 .taken); passes = l .inv .1 }
 
 slot-after-requires : tie.Need-slot-after-requires Inv-loop μ-loop
 slot-after-requires c κs =
