@@ -13,11 +13,11 @@ use lib.Seq.{getD-set-same, getD-set-other}
 use borrow.Author.Tests.{lt-ltb, le-ltb, eq-eqb, ne-eqb}
 use Rattle.rules.specs.Split.{entryLimit}
 use Rattle.splitter.specs.Bodies.{bodySize}
-use Rattle.splitter.specs.Way.{Asked, link, after, Ends, onward, slotAfter, Passes, Guides, Led}
+use Rattle.splitter.specs.Way.{Asked, link, saysYes, after, Ends, onward, slotAfter, Passes, Guides, Led}
 use Rattle.splitter.specs.Way.{here, onYes, more}
 
 -- both slots after question g are of number g
-pub half-after : (places values b : List ℕ) (g : ℕ) → after places values b g / 2 ≡ g
+half-after : (places values b : List ℕ) (g : ℕ) → after places values b g / 2 ≡ g
 unfolding after
 half-after places values b g = go (eqb (getD b (getD places g 0) 0) (getD values g 0))
   where
@@ -26,7 +26,7 @@ half-after places values b g = go (eqb (getD b (getD places g 0) 0) (getD values
     go false = omega arith
 
 -- the question of one of n groups leads to one of 2·n slots
-pub after-within : (places values b : List ℕ) (g n : ℕ) → g < n → after places values b g < 2 * n
+after-within : (places values b : List ℕ) (g n : ℕ) → g < n → after places values b g < 2 * n
 after-within places values b g n h = omega (arith, half-after places values b g)
 
 module _ (q : Asked) (b : List ℕ) where
@@ -42,9 +42,20 @@ module _ (q : Asked) (b : List ℕ) where
   unfolding slotAfter
   starts = record { questions = 0; there = refl }
 
-  pub passes-on : (s : ℕ) → Passes q b s → s / 2 < link q s → Passes q b (after (q .places) (q .values) b (link q s))
+  passes-on : (s r : ℕ) → Passes q b s → s / 2 < link q s → after (q .places) (q .values) b (link q s) ≡ r → Passes q b r
   unfolding slotAfter
-  passes-on s p h = record { questions = suc (p .questions); there = ap (onward q b) (p .there) ∙ goes-on s h }
+  passes-on s r p h e = record { questions = suc (p .questions); there = ap (onward q b) (p .there) ∙ goes-on s h ∙ e }
+
+  -- after a yes, and after a no
+  pub passes-yes : (s : ℕ) → Passes q b s → s / 2 < link q s → saysYes (q .places) (q .values) b (link q s) ≡ true
+      → Passes q b (2 * link q s)
+  unfolding after
+  passes-yes s p h e = passes-on s (2 * link q s) p h (rw e)
+
+  pub passes-no : (s : ℕ) → Passes q b s → s / 2 < link q s → saysYes (q .places) (q .values) b (link q s) ≡ false
+      → Passes q b (2 * link q s + 1)
+  unfolding after
+  passes-no s p h e = passes-on s (2 * link q s + 1) p h (rw e)
 
   stays-on : (k j : ℕ) → Ends q (slotAfter q b k) → slotAfter q b (j + k) ≡ slotAfter q b k
   unfolding slotAfter

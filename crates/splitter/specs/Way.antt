@@ -3,7 +3,7 @@
 -- asked there; else the way ends there, and it is the group. After question g a body is at slot 2·g on a yes, and at the next on a no.
 -- It starts at slot 0.
 use mathlib.Core.Path.{_≡_}
-use mathlib.Core.Bool.{cond}
+use mathlib.Core.Bool.{Bool, true, cond}
 use mathlib.Core.List.{List}
 use Prim.Native.Nat.{ℕ, zero, suc, _+_, _*_, _/_, _<_, _≤_}
 use lib.Dec.{eqb, ltb}
@@ -23,9 +23,13 @@ asked links places values = record { links = links; places = places; values = va
 abbrev pub link : Asked → ℕ → ℕ
 link q s = getD (q .links) s 0
 
+-- the answer of a body to question g
+abbrev pub saysYes : List ℕ → List ℕ → List ℕ → ℕ → Bool
+saysYes places values b g = eqb (getD b (getD places g 0) 0) (getD values g 0)
+
 -- the slot after question g
 unfoldable pub after : List ℕ → List ℕ → List ℕ → ℕ → ℕ
-after places values b g = cond (eqb (getD b (getD places g 0) 0) (getD values g 0)) (2 * g) (2 * g + 1)
+after places values b g = cond (saysYes places values b g) (2 * g) (2 * g + 1)
 
 -- the way ends at slot s
 abbrev pub Ends : Asked → ℕ → Type 0
@@ -68,6 +72,13 @@ pub record Guides (q : Asked) (n : ℕ) : Type 0 where
   pub values-size : length (q .values) ≡ entryLimit
   pub below : (s : ℕ) → s < 2 * n → link q s < n
   pub inside : (g : ℕ) → g < n → getD (q .places) g 0 < bodySize
+
+-- from slot s on a body's way comes by slot r, where it ends or a question is answered with a yes
+pub record Onto (q : Asked) (b : List ℕ) (n s r : ℕ) : Type 0 where
+  pub within : r < 2 * n
+  pub further : s / 2 ≤ r / 2
+  pub passes : Passes q b r
+  pub answered : r / 2 < link q r → saysYes (q .places) (q .values) b (link q r) ≡ true
 
 -- s is where the way of a body ends
 pub record Led (q : Asked) (b : List ℕ) (n s : ℕ) : Type 0 where

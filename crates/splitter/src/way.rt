@@ -4,23 +4,47 @@ ghost use Prim.Native.Nat.{_*_, _<_};
 ghost use lib.ListN.{length, getD};
 ghost use Rattle.rules.specs.Split.{entryLimit};
 ghost use Rattle.splitter.specs.Bodies.{bodySize};
-ghost use Rattle.splitter.specs.Way.{asked, after, Guides, Led, more};
+ghost use Rattle.splitter.specs.Way.{asked, saysYes, Passes, Guides, Onto, Led, more};
 
-// The slot after question g: an even one on a yes.
-fn slot_after(body: &[u8], places: &[u16], values: &[u8], g: usize) -> usize
+// The answer of a body to question g.
+fn is_yes(body: &[u8], places: &[u16], values: &[u8], g: usize) -> bool
     requires { ⌜ g < length (now places) ⌝ }
     requires { ⌜ g < length (now values) ⌝ }
     requires { ⌜ getD (now places) g 0 < length (now body) ⌝ }
-    ensures { λ r. ⌜ r ≡ after (now (places .entry)) (now (values .entry)) (now (body .entry)) g ⌝ }
+    ensures { λ r. ⌜ r ≡ saysYes (now (places .entry)) (now (values .entry)) (now (body .entry)) g ⌝ }
 {
-    if body[places[g] as usize] == values[g] {
-        2 * g
-    } else {
-        2 * g + 1
+    body[places[g] as usize] == values[g]
+}
+
+// From a slot of a body's way on, the first where the way ends or a question is answered with a yes.
+fn pass_noes(
+    body: &[u8],
+    links: &[u16],
+    places: &[u16],
+    values: &[u8],
+    groups: usize,
+    slot: usize,
+) -> usize
+    requires { ⌜ length (now body) ≡ bodySize ⌝ }
+    requires { ⌜ Guides (asked (now links) (now places) (now values)) groups ⌝ }
+    requires { ⌜ (slot < 2 * groups) × Passes (asked (now links) (now places) (now values)) (now body) slot ⌝ }
+    ensures { λ r. ⌜ Onto (asked (now (links .entry)) (now (places .entry)) (now (values .entry))) (now (body .entry)) groups slot r ⌝ }
+{
+    let mut at = slot;
+    loop {
+        let next = links[at] as usize;
+        if next <= at / 2 {
+            return at;
+        }
+        if is_yes(body, places, values, next) {
+            return at;
+        }
+        at = 2 * next + 1;
     }
 }
 
-// The slot where the way of a body ends, of `groups` groups.
+// The slot where the way of a body ends, of `groups` groups. Noes are passed in a loop of their own: so the processor foretells answers
+// and goes on, where one loop for both waits for each (docs/SPEED.md).
 pub(crate) fn lead(
     body: &[u8],
     links: &[u16],
@@ -34,11 +58,12 @@ pub(crate) fn lead(
 {
     let mut slot: usize = 0;
     loop {
-        let next = links[slot] as usize;
-        if next <= slot / 2 {
-            return slot;
+        let stop = pass_noes(body, links, places, values, groups, slot);
+        let next = links[stop] as usize;
+        if next <= stop / 2 {
+            return stop;
         }
-        slot = slot_after(body, places, values, next);
+        slot = 2 * next;
     }
 }
 

@@ -116,12 +116,12 @@ loop-again c =
     let g = c .before .before .before .before .before .before .group-of in
     let f = bodies t in
     let here = c .before .before .before .before .before .before .before .before .before .before .before .loop-test .taken in
-    let side = c .side-of .ensures ∙ ap turn (g .ensures .0) in (
+    let front = take-suc-set (l .out) (l .i) (c .side-of .result) here in (
       omega arith,
       rw length-set (omega arith),
       length-set (l .out) (l .i) (c .side-of .result) ∙ l .inv .2,
-      rw (add-one, take-suc-set (l .out) (l .i) (c .side-of .result) here, l .inv .3, side) (sym (rw add-one at (sides-more f (l .i)))),
-      rw (l .inv .4, side) (sym (held-out-more f (l .i))),
+      rw (add-one, front, l .inv .3, c .side-of .ensures, g .ensures .0) (sym (rw add-one at (sides-more f (l .i)))),
+      rw (l .inv .4, c .side-of .ensures, g .ensures .0) (sym (held-out-more f (l .i))),
       next-known f (l .i) _ _ _ _ _ (l .inv .5 .groups) (g .ensures .0) (c .before .groups-with .ensures) (g .ensures .1),
     )
 
