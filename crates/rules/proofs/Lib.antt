@@ -5,8 +5,8 @@ pub mod Readings
 pub mod Keys
 pub mod Over
 pub mod Parts
-pub mod Maps
 pub mod Bits
+pub mod Maps
 pub mod Numbers
 pub mod Loads
 pub mod MadeUp

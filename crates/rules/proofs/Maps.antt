@@ -7,12 +7,13 @@ use native.Mathlib.Nat.{zero-div}
 use native.Mathlib.Omega.{arith}
 use native.Mathlib.Decide.{ℕ-discrete}
 use lib.Bits.{bitOr, or-shr, or-step}
-use lib.Dec.{eqb, eqb→eq}
+use lib.Dec.{eqb}
 use lib.ListN.{length, getD, replicate, length-set}
 use lib.Seq.{getD-set-same, getD-set-other}
 use borrow.Author.Tests.{eq-eqb, ne-eqb}
 use Rattle.rules.specs.Base.{one, odd, mem, isMarked, marked, marks}
 use Rattle.rules.specs.Tile.{mapSize, freshMap}
+use Rattle.rules.proofs.Bits.{ones}
 use Rattle.rules.proofs.Computed.{agree-below}
 
 -- every address of the list is below n
@@ -59,12 +60,6 @@ one-bit j k h l =
     ones _ _
     (rw (first, second) at
     (agree-below 64 (λ n. one (odd (2 ^ (n / 8) / 2 ^ (n % 8)))) (λ n. one (eqb (n / 8) (n % 8))) tt (8 * j + k) pair))
-  where
-    ones : (a b : Bool) → one a ≡ one b → a ≡ b
-    ones true true e = refl
-    ones true false e = absurd (omega (arith, e))
-    ones false true e = absurd (omega (arith, e))
-    ones false false e = refl
 
 -- one address more is marked
 marked-at : (m : List ℕ) (b a : ℕ) → a / 8 < length m → isMarked (marked m b) a ≡ (eqb a b || isMarked m a)
