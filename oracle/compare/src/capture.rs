@@ -143,6 +143,9 @@ pub const END_BYTES: u64 = 1 << 17;
 /// By what a run is replayed.
 #[derive(Clone, Copy, Debug, PartialEq, Eq)]
 pub enum By {
+    /// The own call of each load and key. Records that no such call stands for are left out: of an unknown kind, and with a source
+    /// beyond the companion.
+    OwnCalls,
     /// A call of the archive for each record.
     Call,
     /// The compiled program.
@@ -156,6 +159,8 @@ pub struct Run {
     pub records: Vec<Record>,
     /// The bytes of a torn record behind them, fewer than [`RECORD_BYTES`].
     pub tail: Vec<u8>,
+    /// The number of the load before the first. The program begins with 0.
+    pub last: u32,
     pub companion: Companion,
 }
 
@@ -175,7 +180,7 @@ impl Run {
 
 impl fmt::Display for Run {
     fn fmt(&self, f: &mut fmt::Formatter<'_>) -> fmt::Result {
-        writeln!(f, "  replayed by: {:?}", self.by)?;
+        writeln!(f, "  replayed by: {:?}, last: {}", self.by, self.last)?;
         for (i, record) in self.records.iter().enumerate() {
             writeln!(f, "  record {i}: {record}")?;
         }
