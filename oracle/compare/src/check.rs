@@ -96,7 +96,7 @@ impl Workspace {
         let untouched = source.to_vec();
         let before = numbers::found(case.fill, case.seed + 2);
         let (mut bank, mut written, mut last) = (self.bank.clone(), before, case.last);
-        let answer = archive_load(&mut bank[..], &mut written, source, &case.tile, case.image_siz, case.load(), &mut last);
+        let answer = archive_load(&mut bank[..], &mut written, source, case, &mut last);
         same("the source", &untouched, source)?;
 
         let Some(number) = numbers::after(case.last) else {
@@ -189,27 +189,19 @@ impl Workspace {
     }
 }
 
-/// The archive's load.
+/// The archive's load, after one of the number `last`.
 pub fn archive_load(
     bank: &mut [u8],
     written: &mut [u8],
     source: &[u8],
-    tile: &Tile,
-    image_siz: u32,
-    load: Load,
+    case: &Case,
     last: &mut u32,
 ) -> Result<Loaded, Refusal> {
-    let number = |number: usize| number as u32;
-    match load {
-        Load::Block { dxt, words } => slices::load_block(bank, written, source, tile, image_siz, dxt, number(words), last),
-        Load::Tile { rows, words, stride } => {
-            let (rows, words, stride) = (number(rows), number(words), number(stride));
-            slices::load_tile(bank, written, source, tile, image_siz, rows, words, stride, last)
-        }
-        Load::Tlut { count, rows, stride } => {
-            let (count, rows, stride) = (number(count), number(rows), number(stride));
-            slices::load_tlut(bank, written, source, tile, image_siz, count, rows, stride, last)
-        }
+    let [a, b, c] = case.numbers;
+    match case.call {
+        Call::LoadBlock => slices::load_block(bank, written, source, &case.tile, case.image_siz, a, b, last),
+        Call::LoadTlut => slices::load_tlut(bank, written, source, &case.tile, case.image_siz, a, b, c, last),
+        _ => slices::load_tile(bank, written, source, &case.tile, case.image_siz, a, b, c, last),
     }
 }
 
@@ -223,11 +215,11 @@ fn sampling(case: &Case) -> Result<Amount, String> {
 fn has_load(case: &Case) -> Result<Amount, String> {
     let [tmem_addr, words, rows] = case.numbers;
     let loaded = Tile { tmem_addr, ..case.tile };
-    let load = Load::Tile { rows: rows as usize, words: words as usize, stride: 8 };
     let (mut bank, mut written, mut last) = ([0; 4096], numbers::FRESH, case.last);
-    let answer = archive_load(&mut bank, &mut written, &[], &loaded, case.image_siz, load, &mut last);
+    let answer = slices::load_tile(&mut bank, &mut written, &[], &loaded, case.image_siz, rows, words, 8, &mut last);
 
     let mut memory = Memory::new(&bank);
+    let load = Load::Tile { rows: rows as usize, words: words as usize, stride: 8 };
     let counted = memory.load_counted(&[], &descriptor(&loaded), case.image_siz as u8, load);
     same_loaded(&counted, case.last + 1, answer)?;
     let yes = memory.tile_has_load(&descriptor(&case.tile), case.tile.mode as u8);

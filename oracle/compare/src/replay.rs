@@ -1,6 +1,6 @@
 //! One run of records, done by the original's loads and keys, and by the archive or the program.
 use crate::capture::{By, Companion, Record, Run, END_BYTES, KEY, RECORD_BYTES};
-use crate::case::descriptor;
+use crate::case::{descriptor, Call};
 use crate::check::{archive_load, fill, same, same_answer, same_number, Amount, BEFORE};
 use crate::numbers::{self, Written};
 use crate::program::Program;
@@ -96,11 +96,11 @@ fn by_calls(run: &Run, file: &File) -> Result<Amount, String> {
 
 /// The load or key of a record, by its own call.
 fn own_call(bank: &mut [u8], written: &mut [u8], record: &Record, part: &[u8], last: &mut u32) -> Result<u32, Refusal> {
-    let tile = record.tile();
-    let Some(load) = record.load() else {
-        return slices::key(bank, &tile, record.lane(), &mut [0; 4096]);
-    };
-    archive_load(bank, written, part, &tile, record.image_siz(), load, last).map(|loaded| loaded.count)
+    let case = record.case().ok_or(Refusal::Kind)?;
+    if case.call == Call::Key {
+        return slices::key(bank, &case.tile, case.lane, &mut [0; 4096]);
+    }
+    archive_load(bank, written, part, &case, last).map(|loaded| loaded.count)
 }
 
 fn by_program(run: &Run, file: &File, program: &Program) -> Result<Amount, String> {
