@@ -36,8 +36,10 @@ pub load-determined : (o : Outcome) (r s : LoadAnswer) (l m : List (List ℕ)) �
     → (r ≡ s) × (l ≡ m)
 unfolding number
 load-determined o r s l m p q =
-    let e : loadAnswered r l ≡ loadAnswered s m = determined p q in
-    ((λ i. record { refusal = e i .refusal; count = number 0 (e i); «made_up» = number 1 (e i); number = number 2 (e i) }), ap (λ o. o .buffers) e)
+    let e : loadAnswered r l ≡ loadAnswered s m = determined p q in (
+      (λ i. record { refusal = e i .refusal; count = number 0 (e i); «made_up» = number 1 (e i); number = number 2 (e i) }),
+      ap (λ o. o .buffers) e,
+    )
 
 pub replay-determined : (o : Outcome) (r s : ReplayAnswer) (l m : List (List ℕ)) → replayAnswered r l ≡ o → replayAnswered s m ≡ o
     → (r ≡ s) × (l ≡ m)
@@ -83,8 +85,10 @@ pub run-determined : (o : Outcome) (r s : RunAnswer) (l m : List (List ℕ)) →
     → (r ≡ s) × (l ≡ m)
 unfolding number
 run-determined o r s l m p q =
-    let e : runAnswered r l ≡ runAnswered s m = determined p q in
-    ((λ i. record { refusal = e i .refusal; records = number 0 (e i); end = number 1 (e i); number = number 2 (e i) }), ap (λ o. o .buffers) e)
+    let e : runAnswered r l ≡ runAnswered s m = determined p q in (
+      (λ i. record { refusal = e i .refusal; records = number 0 (e i); end = number 1 (e i); number = number 2 (e i) }),
+      ap (λ o. o .buffers) e,
+    )
 
 pub refusal-determined : (o : Outcome) (r s : ℕ) (l m : List (List ℕ)) → refusalAnswered r l ≡ o → refusalAnswered s m ≡ o
     → (r ≡ s) × (l ≡ m)

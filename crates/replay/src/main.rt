@@ -1,9 +1,10 @@
 // Replays a capture's loads: `replay COMPANION < RECORDS`. It reads records of 48 bytes from standard input to its end and writes a
 // line for each: its refusal, and the count of its stores, or for a key of its kept bytes. After the 65,535th load each further one
-// gives `18 0`, and keys go on. A torn tail gives `8 0`, and empty input nothing. A load takes its bytes from the companion file, of which a piece is held at a time. Where that file cannot be used, a
-// sentence on standard error says so, and no line is written. Where a read of it falls short of its length, a sentence says so after
-// the lines of the records before, and that is the end. A read of the records that fails ends the input. A Rattle program cannot set
-// its exit status, so what went wrong shows in the lines and on standard error alone.
+// gives `18 0`, and keys go on. A torn tail gives `8 0`, and empty input nothing. A load takes its bytes from the companion file, of
+// which a piece is held at a time. Where that file cannot be used, a sentence on standard error says so, and no line is written. Where
+// a read of it falls short of its length, a sentence says so after the lines of the records before, and that is the end. A read of the
+// records that fails ends the input. A Rattle program cannot set its exit status, so what went wrong shows in the lines and on standard
+// error alone.
 ghost use mathlib.Core.Path.{_≡_};
 ghost use Prim.Native.Nat.{_+_, _≤_};
 ghost use lib.ListN.{length};

@@ -15,7 +15,8 @@ use Rattle.tmem.specs.Part.{memory, CarriedOut}
 use Rattle.tmem.specs.declared.asked.Asked.{Asked}
 
 module _ (bank map src : List ℕ) (t : Tile) (image : ℕ) (asked : Asked) (last : ℕ) (b : length bank ≡ bankSize)
-    (m : length map ≡ writtenSize) (passed : first (numberTests (length src) t image (askedOutside asked) []) ≡ 0) (left : last ≤ 65534) where
+    (m : length map ≡ writtenSize) (passed : first (numberTests (length src) t image (askedOutside asked) []) ≡ 0)
+    (left : last ≤ 65534) where
   none : first (loadTests bank map src t image (askedOutside asked) last) ≡ 0
   unfolding first
   none =

@@ -33,7 +33,8 @@ fn replay_refusal(
     part: &[u8],
     last: u32,
 ) -> u32
-    ensures { λ r. ⌜ r ≡ first (replayTests (now (bank .entry)) (now (written .entry)) (now (bytes .entry)) end (now (part .entry)) last) ⌝ }
+    ensures { λ r. ⌜ r ≡ first (replayTests (now (bank .entry)) (now (written .entry)) (now (bytes .entry)) end (now (part .entry))
+        last) ⌝ }
 {
     if bank.len() != Bank::SIZE {
         return refusal::LENGTH;

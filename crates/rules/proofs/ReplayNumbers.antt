@@ -3,7 +3,7 @@
 use mathlib.Core.Path.{_≡_, refl, ap, sym, _∙_}
 use mathlib.Core.Bool.{Bool, true, false, cond}
 use mathlib.Core.List.{List, [], _∷_}
-use Prim.Native.Nat.{ℕ, suc, _+_, _*_, _<_, _≤_}
+use Prim.Native.Nat.{ℕ, _+_, _*_, _<_, _≤_}
 use native.Mathlib.Nat.{add-zero}
 use native.Mathlib.Omega.{arith}
 use lib.ListN.{length, length-replicate}
@@ -27,8 +27,8 @@ last-within : (a : ℕ) (l : List (List ℕ)) (n old : ℕ) → old ≤ n → la
 unfolding lastTo
 last-within a [] n old h = omega arith
 last-within a (r ∷ l) n old h =
-    let next = last-within a l (following n) (cond (mem a (addresses (storesIn r))) (following n) old) (go (mem a (addresses (storesIn r)))) in
-    omega (arith, next)
+    let stores = mem a (addresses (storesIn r)) in
+    omega (arith, last-within a l (following n) (cond stores (following n) old) (go stores))
   where
     go : (b : Bool) → cond b (following n) old ≤ following n
     go true = omega arith

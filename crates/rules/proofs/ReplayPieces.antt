@@ -14,7 +14,7 @@ use Rattle.rules.specs.Base.{recordOf}
 use Rattle.rules.specs.Load.{stored, written, following}
 use Rattle.rules.specs.Refusal.{Outcome, first, settle, callOr}
 use Rattle.rules.specs.Replay.{replaySize, offsetIn, sizeIn, asksKey, storesIn, recordTests, takesPart}
-use Rattle.rules.specs.Replay.{Carried, spent, countOf, left, lastOf, tested, stepTests, outcome, partOf, inFile}
+use Rattle.rules.specs.Replay.{Carried, spent, countOf, left, lastOf, tested, outcome, partOf, inFile}
 use Rattle.rules.specs.Replay.{lineIn, onward, replayed, lines, texts}
 use Rattle.rules.specs.Replay.{recordCount, firstRecords, recordsIn, Piece, atHand, partIn, inPiece, ready}
 use Rattle.rules.proofs.Ranges.{both}

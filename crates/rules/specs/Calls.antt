@@ -6,7 +6,8 @@ use lib.Dec.{eqb, ltb}
 use lib.ListN.{length}
 use Rattle.rules.specs.Base.{one, over}
 use Rattle.rules.specs.Refusal.{Test, _if_, Outcome, call, callOr}
-use Rattle.rules.specs.Tile.{Tile, bankSize, mapSize, writtenSize, laneMapSize, loadFieldsOutside, tileOutside, modeOutside, laneOutside}
+use Rattle.rules.specs.Tile.{Tile, bankSize, mapSize, writtenSize, laneMapSize}
+use Rattle.rules.specs.Tile.{loadFieldsOutside, tileOutside, modeOutside, laneOutside}
 use Rattle.rules.specs.Texdec.{accepted, stepKnows}
 use Rattle.rules.specs.Sampling.{flag, extentWidth, extentHeight, lookupTexels}
 use Rattle.rules.specs.Load.{Store, loadTile, blockStores, tileStores, tlutStores, stored, written, following, madeUp}

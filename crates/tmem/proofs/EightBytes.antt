@@ -77,7 +77,8 @@ module _ (src : List ℕ) (from : ℕ → ℕ) {number : ℕ} {m m′ : Memory} 
   unfolding splitStores concat tab tabFrom stored written stamps
   split-taken t l start p = record { bank-is = p .bank-is ∙ go (eqb (t .fmt) 1); map-is = p .map-is }
     where
-      go : (yuv : Bool) → stored (sourceBytes src from) (splitBy yuv l start (λ k. k)) (m .bank) ≡ stored src (splitBy yuv l start from) (m .bank)
+      go : (yuv : Bool)
+          → stored (sourceBytes src from) (splitBy yuv l start (λ k. k)) (m .bank) ≡ stored src (splitBy yuv l start from) (m .bank)
       go true = refl
       go false = refl
 

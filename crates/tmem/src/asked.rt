@@ -74,12 +74,32 @@ impl Asked {
                 rows,
                 words,
                 stride,
-            } => write_tile_rows(bank, written, src, tile, image_siz, rows, words, stride, number),
+            } => write_tile_rows(
+                bank,
+                written,
+                src,
+                tile,
+                image_siz,
+                rows,
+                words,
+                stride,
+                number,
+            ),
             Asked::Tlut {
                 count,
                 rows,
                 stride,
-            } => write_tlut(bank, written, src, tile, image_siz, count, rows, stride, number),
+            } => write_tlut(
+                bank,
+                written,
+                src,
+                tile,
+                image_siz,
+                count,
+                rows,
+                stride,
+                number,
+            ),
         }
     }
 }

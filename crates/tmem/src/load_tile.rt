@@ -55,7 +55,17 @@ pub(crate) fn write_tile_rows(
 {
     let mut tally = Tally::none();
     for row in 0..rows {
-        let more = write_tile_row(bank, written, src, tile, image_siz, words, stride, row, number);
+        let more = write_tile_row(
+            bank,
+            written,
+            src,
+            tile,
+            image_siz,
+            words,
+            stride,
+            row,
+            number,
+        );
         tally = tally.plus(more);
     }
     tally

@@ -45,5 +45,12 @@ pub(crate) fn store_pair(
     ensures { λ _. ⌜ CarriedOut (bytesIn word) (halfStores (at .0) k «next_k») number
         (memory (now (bank .entry)) (now (written .entry))) (memory (now (bank .exit)) (now (written .exit))) ⌝ }
 {
-    store_halfword(bank, written, at, byte_of(word, k), byte_of(word, next_k), number);
+    store_halfword(
+        bank,
+        written,
+        at,
+        byte_of(word, k),
+        byte_of(word, next_k),
+        number,
+    );
 }

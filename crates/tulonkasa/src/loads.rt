@@ -52,7 +52,17 @@ pub extern "C" fn tk_load_tile(
         (loadTileFrom fmt siz line «tmem_addr») «image_siz» rows words stride last ⌝ }
 {
     let tile = load_tile_from(fmt, siz, line, tmem_addr);
-    tmem::load::write_tile_for_tile(bank, written, source, tile, image_siz, rows, words, stride, last)
+    tmem::load::write_tile_for_tile(
+        bank,
+        written,
+        source,
+        tile,
+        image_siz,
+        rows,
+        words,
+        stride,
+        last,
+    )
 }
 
 // A TLUT load.
@@ -76,5 +86,15 @@ pub extern "C" fn tk_load_tlut(
         (loadTileFrom fmt siz line «tmem_addr») «image_siz» count rows stride last ⌝ }
 {
     let tile = load_tile_from(fmt, siz, line, tmem_addr);
-    tmem::load::write_tlut_for_tile(bank, written, source, tile, image_siz, count, rows, stride, last)
+    tmem::load::write_tlut_for_tile(
+        bank,
+        written,
+        source,
+        tile,
+        image_siz,
+        count,
+        rows,
+        stride,
+        last,
+    )
 }

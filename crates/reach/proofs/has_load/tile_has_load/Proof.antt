@@ -11,7 +11,8 @@ use Rattle.reach.proofs.has_load.tile_has_load.Statement.{statement}
 use Rattle.reach.proofs.has_load.tile_has_load.Tie as tie
 
 -- what is known once there was no refusal
-zero : (c : tie.Else1) → let a = c .before .before .before .args in first (mapTests writtenSize (a .written .now) (tileOf (a .tile)) (a .tlut)) ≡ 0
+zero : (c : tie.Else1) → let a = c .before .before .before .args in
+    first (mapTests writtenSize (a .written .now) (tileOf (a .tile)) (a .tlut)) ≡ 0
 zero c = sym (c .before .map-refusal .ensures) ∙ c .if1 .left
 
 map-refusal-requires : tie.Need-map-refusal-requires

@@ -11,7 +11,8 @@ use Rattle.reach.proofs.reach.reach.Statement.{statement}
 use Rattle.reach.proofs.reach.reach.Tie as tie
 
 -- what is known once there was no refusal
-zero : (c : tie.Else1) → let a = c .before .before .before .before .args in first (mapTests mapSize (a .map .now) (tileOf (a .tile)) (a .tlut)) ≡ 0
+zero : (c : tie.Else1) → let a = c .before .before .before .before .args in
+    first (mapTests mapSize (a .map .now) (tileOf (a .tile)) (a .tlut)) ≡ 0
 zero c = sym (c .before .map-refusal .ensures) ∙ c .if1 .left
 
 map-refusal-requires : tie.Need-map-refusal-requires

@@ -17,7 +17,8 @@ returns c =
 returns-2 : tie.Need-returns-2
 returns-2 c =
     let a = c .before .before .before .before .before .before .args in
-    short-map (a .bank .now) (a .written .now) (ownTests (a .end) (a .bytes .now) (a .part .now) (a .last)) (c .before .if1 .left) (c .if2 .taken)
+    short-map (a .bank .now) (a .written .now) (ownTests (a .end) (a .bytes .now) (a .part .now) (a .last)) (c .before .if1 .left)
+    (c .if2 .taken)
 
 -- bank and map are whole, and the other tests are left
 left : (c : tie.Else2) → let a = c .before .before .before .before .before .before .args in
@@ -25,7 +26,8 @@ left : (c : tie.Else2) → let a = c .before .before .before .before .before .be
     ≡ first (ownTests (a .end) (a .bytes .now) (a .part .now) (a .last))
 left c =
     let a = c .before .before .before .before .before .before .args in
-    both-lent (a .bank .now) (a .written .now) (ownTests (a .end) (a .bytes .now) (a .part .now) (a .last)) (c .before .if1 .left) (c .if2 .left)
+    both-lent (a .bank .now) (a .written .now) (ownTests (a .end) (a .bytes .now) (a .part .now) (a .last)) (c .before .if1 .left)
+    (c .if2 .left)
 
 record-refusal-requires : tie.Need-record-refusal-requires
 record-refusal-requires c κs = search needs

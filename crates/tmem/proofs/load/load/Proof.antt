@@ -25,7 +25,8 @@ returns c = refused-or-is _ _ _ _ _ _ (c .before .load-refusal .ensures) (c .if1
 
 -- no test failed
 passes : (c : tie.Else1) → let a = c .before .before .before .before .before .before .before .args in
-    first (loadTests (a .bank .now) (a .written .now) (a .src .now) (tileOf (a .tile)) (a .image-siz) (askedOutside (a .asked)) (a .last)) ≡ 0
+    first (loadTests (a .bank .now) (a .written .now) (a .src .now) (tileOf (a .tile)) (a .image-siz) (askedOutside (a .asked)) (a .last))
+    ≡ 0
 passes c = sym (c .before .load-refusal .ensures) ∙ c .if1 .left
 
 -- so the load is inside its ranges
