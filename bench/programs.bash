@@ -32,12 +32,23 @@ build_original() {
     cargo build --quiet --release --manifest-path "$root/bench/programs/Cargo.toml"
 }
 
-# seconds INPUT OUTPUT COMMAND..: the shortest of five runs of `cat INPUT | COMMAND >OUTPUT`.
-seconds() {
-    local TIMEFORMAT=%R input=$1 output=$2
+# How often a command is run for one figure.
+times=1
+
+# piped INPUT OUTPUT COMMAND..: `cat INPUT | COMMAND >OUTPUT`, so many times.
+piped() {
+    local input=$1 output=$2 i
     shift 2
+    for ((i = 0; i < times; i++)); do
+        cat "$input" | "$@" >"$output"
+    done
+}
+
+# seconds INPUT OUTPUT COMMAND..: the shortest of five such figures.
+seconds() {
+    local TIMEFORMAT=%R
     for _ in 1 2 3 4 5; do
-        { time cat "$input" | "$@" >"$output"; } 2>&1
+        { time piped "$@"; } 2>&1
     done | sort -n | head -n 1
 }
 

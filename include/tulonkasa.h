@@ -1,10 +1,10 @@
 /* Tulonkasa: the texture memory of a cartridge game console, as a C library.
  *
- * The texture memory is a bank of 4,096 bytes. The library loads it (block, tile, palette), makes pictures of it, says
- * which of its bytes a tile can reach, and cuts a key for a picture: the bank with the bytes kept that making its visible
- * part reads, and all others zero. It writes a picture as a file for other programs, and reads such files. It replays a
- * capture, which is a file of records of such loads and keys. It also splits captures into tuning and held-out ones by their
- * keys.
+ * The texture memory is a bank of 4,096 bytes. The library loads it (block, tile, palette) and records which load wrote each
+ * byte. It makes pictures of the bank, says which of its bytes a tile can reach, and cuts a key for a picture: the bank with
+ * the bytes kept that making its visible part reads, and all others zero. It writes a picture as a file for other programs,
+ * and reads such files. It replays a capture, which is a file of records of such loads and keys. It also splits captures into
+ * tuning and held-out ones by their keys.
  *
  * Rules that hold for every call:
  *
@@ -12,9 +12,10 @@
  *   no state of its own, so calls on different buffers may run at the same time.
  * - Buffers of one call must not overlap. A buffer of length 0 may have a null pointer.
  * - Every number is taken. One that is out of range, or a buffer of a wrong length, is refused with a number (TK_REFUSED_..
- *   below). Each call tests only what it has a use for, in this order: 1, 8, 10, 2, 3, 4, 11, 5, 12, 6, 7, 9. Two calls have
- *   an order of their own: tk_read_pam 13, 14, 2, 15, 6; tk_split 16, 17.
- * - A refused call changes no buffer, and its other answers are 0.
+ *   below). Each call tests only what it has a use for, in this order: 1, 8, 10, 2, 3, 4, 11, 5, 12, 6, 7, 9, 18. Two calls
+ *   have an order of their own: tk_read_pam 13, 14, 2, 15, 6; tk_split 16, 17.
+ * - A refused call changes no buffer. Its other answers are 0, but the number of a load or of a replayed record, which is then
+ *   the one that was passed.
  * - Success is the refusal 0, TK_DONE.
  *
  * The functions named tk_.._of, at the end, take a tk_tile and buffers of the right length, and are what a program wants
@@ -35,11 +36,13 @@ extern "C" {
 /* ---- Sizes ---------------------------------------------------------------------------------------------------------- */
 
 #define TK_BANK_BYTES 4096     /* a bank, and a key */
-#define TK_MAP_BYTES 512       /* a written map or a reach map: address a is bit a % 8 of byte a / 8 */
+#define TK_WRITTEN_BYTES 8192  /* a written record: two bytes an address, high byte first (see Loads) */
+#define TK_MAP_BYTES 512       /* a reach map: address a is bit a % 8 of byte a / 8 */
 #define TK_LANE_MAP_BYTES 32   /* a lane map: slot j is bit j % 8 of byte j / 8 */
 #define TK_PALETTE_BASE 2048   /* where the palette begins in a bank */
 #define TK_LOOKUP_TEXELS 16384 /* the texels of a lookup */
 #define TK_SOURCE_MOST 65536   /* a load's source has at most this many bytes */
+#define TK_LOADS_MOST 65535    /* so many loads have numbers, 1 to this */
 #define TK_SIDE_MOST 1024      /* width and height, of a tile or a picture, are at most this */
 #define TK_TEXEL_READS_MOST 4  /* a texel reads at most this many bytes of the bank */
 #define TK_RECORD_BYTES 48     /* a record of a capture */
@@ -53,7 +56,7 @@ extern "C" {
 
 enum {
     TK_DONE = 0,                 /* not refused */
-    TK_REFUSED_LENGTH = 1,       /* a bank or key is not 4,096 bytes, a written or reach map not 512, a lane map not 32 */
+    TK_REFUSED_LENGTH = 1,       /* a bank, key, written record, reach map or lane map has not its length, as above */
     TK_REFUSED_TILE = 2,         /* a field of the tile is out of range, or a side of a picture is above TK_SIDE_MOST */
     TK_REFUSED_MODE_OR_LANE = 3, /* mode or lane is above 3 */
     TK_REFUSED_LOAD = 4,         /* a number of the load, or the length of its source, is out of range */
@@ -69,13 +72,13 @@ enum {
     TK_REFUSED_TUPLES = 14,      /* a file's depth, maximum or tuple type is another, or it has no tuple type */
     TK_REFUSED_TEXELS = 15,      /* a file has fewer texel bytes than its header calls for */
     TK_REFUSED_COUNT = 16,       /* the count of a split's entries is above TK_ENTRIES_MOST */
-    TK_REFUSED_ENTRIES = 17      /* a split's entries are not TK_ENTRY_BYTES each, or its sides not one byte each */
+    TK_REFUSED_ENTRIES = 17,     /* a split's entries are not TK_ENTRY_BYTES each, or its sides not one byte each */
+    TK_REFUSED_NUMBER = 18       /* no number is left for a load: the last one passed is above 65,534 */
 };
 
 /* ---- Answers -------------------------------------------------------------------------------------------------------- */
 
-/* count: a picture's reads, a key's kept bytes, or a file's bytes; of a replayed record its load's stores, or its key's kept
- * bytes */
+/* count: a picture's reads, a key's kept bytes, or a file's bytes */
 typedef struct tk_answer {
     uint32_t refusal;
     uint32_t count;
@@ -85,12 +88,22 @@ typedef struct tk_answer {
  * its end.
  * At 0 every stored byte came from the source; above 0 the load asks for more than the source has, as where a capture cut it
  * short. A byte that is stored several times over, as a palette's are, counts each time. made_up is never above count; both
- * are 0 where the load is refused. */
+ * are 0 where the load is refused.
+ * number: the load's own number, or where it is refused the number that was passed. Either way it is what to pass next. */
 typedef struct tk_load_answer {
     uint32_t refusal;
     uint32_t count;
     uint32_t made_up;
+    uint32_t number;
 } tk_load_answer;
+
+/* count: the stores of a replayed record's load, or the bytes that its key would keep. number: the load's number; of a key and of
+ * a refused record the number that was passed. */
+typedef struct tk_replay_answer {
+    uint32_t refusal;
+    uint32_t count;
+    uint32_t number;
+} tk_replay_answer;
 
 /* flag: 1 if the tile calls for a lookup, 0 for a plain picture. width, height: the texels to allocate for it. */
 typedef struct tk_sampling_answer {
@@ -150,21 +163,34 @@ typedef struct tk_tile {
 
 /* ---- Loads ---------------------------------------------------------------------------------------------------------- */
 
-/* A load stores bytes of the source into the bank and marks each stored address in the written map, which only gains marks.
+/* A load stores bytes of the source into the bank, and its number at each stored address of the written record.
  * The source has 0 to 65,536 bytes; past its end zeros are made up. Of the tile a load takes fmt, siz, line and tmem_addr.
  * image_siz, 0..3, is the size of the image that is loaded from. On odd rows the two halves of each word change places, as
  * making a picture expects.
- * Refuses 1 (bank, written), 2, 4. Answers the count of stores, and how many of their bytes were made up. */
+ *
+ * The written record holds for each address the number of the last load that stored there, 0 for none: bytes 2 a and 2 a + 1 for
+ * address a, high byte first. tk_written_by reads it. An address counts as written when its number is not 0.
+ *
+ * Loads are numbered from 1 on, beginning with a record of zeros. The library keeps no state, so the caller keeps the number of
+ * the last load: `last` is that number, 0 before the first, and the load stores and answers the one after it. A load that stores
+ * nothing takes a number too; a refused one takes none, and answers the number passed. So the number answered is always the one to
+ * pass to the next load with this bank and record. Nothing ties `last` to what the record holds.
+ *
+ * The last number is 65,535. A load to which a number above 65,534 is passed is refused by 18: to go on, begin with a record of
+ * zeros and a `last` of 0.
+ *
+ * Refuses 1 (bank, written), 2, 4, 18 (last). Answers the count of stores, how many of their bytes were made up, and the number. */
 
 /* words: 0..2,048 words of eight bytes in a row. dxt: 0..4,095, added up word by word; each 2,048 begins a new row. */
 tk_load_answer tk_load_block(uint8_t *bank, size_t bank_length, uint8_t *written, size_t written_length,
                              const uint8_t *source, size_t source_length, uint32_t fmt, uint32_t siz, uint32_t line,
-                             uint32_t tmem_addr, uint32_t image_siz, uint32_t dxt, uint32_t words);
+                             uint32_t tmem_addr, uint32_t image_siz, uint32_t dxt, uint32_t words, uint32_t last);
 
 /* rows: 0..1,024. words: 0..512, of eight bytes, in each row. stride: 0..65,535 source bytes from row to row. */
 tk_load_answer tk_load_tile(uint8_t *bank, size_t bank_length, uint8_t *written, size_t written_length,
                             const uint8_t *source, size_t source_length, uint32_t fmt, uint32_t siz, uint32_t line,
-                            uint32_t tmem_addr, uint32_t image_siz, uint32_t rows, uint32_t words, uint32_t stride);
+                            uint32_t tmem_addr, uint32_t image_siz, uint32_t rows, uint32_t words, uint32_t stride,
+                            uint32_t last);
 
 /* A palette: an entry of two bytes is stored four times over. count: 0..1,024 entries a row. rows: 1..1,024. stride:
  * 0..65,535 source bytes from row to row.
@@ -179,7 +205,8 @@ tk_load_answer tk_load_tile(uint8_t *bank, size_t bank_length, uint8_t *written,
  * bank's end: rows step 32 line. Here fmt and siz have no effect. */
 tk_load_answer tk_load_tlut(uint8_t *bank, size_t bank_length, uint8_t *written, size_t written_length,
                             const uint8_t *source, size_t source_length, uint32_t fmt, uint32_t siz, uint32_t line,
-                            uint32_t tmem_addr, uint32_t image_siz, uint32_t count, uint32_t rows, uint32_t stride);
+                            uint32_t tmem_addr, uint32_t image_siz, uint32_t count, uint32_t rows, uint32_t stride,
+                            uint32_t last);
 
 /* ---- Which picture -------------------------------------------------------------------------------------------------- */
 
@@ -260,7 +287,7 @@ tk_size_answer tk_read_pam(const uint8_t *file, size_t file_length, uint8_t *pic
 /* Overwrites the map with a mark for each address that the tile can reach. Answers the refusal: 1 (map), 2, 3. */
 uint32_t tk_reach(TK_TILE_PARAMETERS, uint8_t *map, size_t map_length);
 
-/* Whether the tile can reach an address that the written map marks. Refuses 1 (written), 2, 3. */
+/* Whether the tile can reach a written address: one whose number in the written record is not 0. Refuses 1 (written), 2, 3. */
 tk_yes_answer tk_tile_has_load(TK_TILE_PARAMETERS, const uint8_t *written, size_t written_length);
 
 /* Overwrites the lane map: slot j, the eight bytes from 2,048 + 8 j, is marked if its four pairs of bytes are not all equal.
@@ -304,16 +331,20 @@ tk_answer tk_key(const uint8_t *bank, size_t bank_length, TK_TILE_PARAMETERS, ui
  * end: the bytes of the companion file. part: its bytes from the record's offset on. The first `length` of them are the
  * source; further ones are not read. A key needs no part.
  *
- * A load changes bank and written map and answers the count of stores; how many of their bytes were made up is not answered.
- * A key changes nothing and answers the count of bytes that tk_key would keep of the bank as it stands.
- * Refuses 1 (bank, written), 8, 10; then a load 2, 4 (length above 65,536 too), 11 (offset + length above end, or a part
- * shorter than length); and a key 2, 3, 5, 9.
+ * last: the number of the last load, as the loads take it.
  *
- * A capture is replayed by a call for each record in turn, beginning with a bank and a map of zeros. A refusal does not stop
- * it: that record changes nothing. */
-tk_answer tk_replay_record(uint8_t *bank, size_t bank_length, uint8_t *written, size_t written_length,
-                           const uint8_t *record, size_t record_length, uint64_t end, const uint8_t *part,
-                           size_t part_length);
+ * A load changes bank and written record, and answers the count of stores and its number; how many of the bytes were made up is
+ * not answered. A key changes nothing, and answers the count of bytes that tk_key would keep of the bank as it stands; it takes no
+ * number, and answers the one passed.
+ * Refuses 1 (bank, written), 8, 10; then a load 2, 4 (length above 65,536 too), 11 (offset + length above end, or a part
+ * shorter than length), 18 (last); and a key 2, 3, 5, 9.
+ *
+ * A capture is replayed by a call for each record in turn, beginning with a bank and a written record of zeros and a `last` of 0;
+ * each call then gets the number that the one before it answered. A refusal does not stop a replay: that record changes nothing and
+ * takes no number. After the 65,535th load each further one is refused by 18, unless by another number before it, and keys go on. */
+tk_replay_answer tk_replay_record(uint8_t *bank, size_t bank_length, uint8_t *written, size_t written_length,
+                                  const uint8_t *record, size_t record_length, uint64_t end, const uint8_t *part,
+                                  size_t part_length, uint32_t last);
 
 /* ---- Tuning and held out -------------------------------------------------------------------------------------------- */
 
@@ -348,27 +379,28 @@ tk_split_answer tk_split(uint32_t count, const uint8_t *entries, size_t entries_
 
 /* ---- The same calls on a tk_tile ------------------------------------------------------------------------------------ */
 
-/* Here a bank or key is a pointer to TK_BANK_BYTES, a written or reach map to TK_MAP_BYTES, a lane map to TK_LANE_MAP_BYTES,
- * a record to TK_RECORD_BYTES, entries to TK_ENTRY_BYTES each, sides to a byte each. */
+/* Here a bank or key is a pointer to TK_BANK_BYTES, a written record to TK_WRITTEN_BYTES, a reach map to TK_MAP_BYTES, a lane map
+ * to TK_LANE_MAP_BYTES, a capture's record to TK_RECORD_BYTES, entries to TK_ENTRY_BYTES each, sides to a byte each. */
 
 static inline tk_load_answer tk_load_block_of(uint8_t *bank, uint8_t *written, const uint8_t *source, size_t source_length,
-                                              const tk_tile *tile, uint32_t image_siz, uint32_t dxt, uint32_t words) {
-    return tk_load_block(bank, TK_BANK_BYTES, written, TK_MAP_BYTES, source, source_length, tile->fmt, tile->siz,
-                         tile->line, tile->tmem_addr, image_siz, dxt, words);
+                                              const tk_tile *tile, uint32_t image_siz, uint32_t dxt, uint32_t words,
+                                              uint32_t last) {
+    return tk_load_block(bank, TK_BANK_BYTES, written, TK_WRITTEN_BYTES, source, source_length, tile->fmt, tile->siz,
+                         tile->line, tile->tmem_addr, image_siz, dxt, words, last);
 }
 
 static inline tk_load_answer tk_load_tile_of(uint8_t *bank, uint8_t *written, const uint8_t *source, size_t source_length,
                                              const tk_tile *tile, uint32_t image_siz, uint32_t rows, uint32_t words,
-                                             uint32_t stride) {
-    return tk_load_tile(bank, TK_BANK_BYTES, written, TK_MAP_BYTES, source, source_length, tile->fmt, tile->siz, tile->line,
-                        tile->tmem_addr, image_siz, rows, words, stride);
+                                             uint32_t stride, uint32_t last) {
+    return tk_load_tile(bank, TK_BANK_BYTES, written, TK_WRITTEN_BYTES, source, source_length, tile->fmt, tile->siz,
+                        tile->line, tile->tmem_addr, image_siz, rows, words, stride, last);
 }
 
 static inline tk_load_answer tk_load_tlut_of(uint8_t *bank, uint8_t *written, const uint8_t *source, size_t source_length,
                                              const tk_tile *tile, uint32_t image_siz, uint32_t count, uint32_t rows,
-                                             uint32_t stride) {
-    return tk_load_tlut(bank, TK_BANK_BYTES, written, TK_MAP_BYTES, source, source_length, tile->fmt, tile->siz, tile->line,
-                        tile->tmem_addr, image_siz, count, rows, stride);
+                                             uint32_t stride, uint32_t last) {
+    return tk_load_tlut(bank, TK_BANK_BYTES, written, TK_WRITTEN_BYTES, source, source_length, tile->fmt, tile->siz,
+                        tile->line, tile->tmem_addr, image_siz, count, rows, stride, last);
 }
 
 static inline tk_sampling_answer tk_sampling_of(const tk_tile *tile) { return tk_sampling(TK_TILE_ARGUMENTS(tile)); }
@@ -408,7 +440,7 @@ static inline uint32_t tk_reach_of(const tk_tile *tile, uint8_t *map) {
 }
 
 static inline tk_yes_answer tk_tile_has_load_of(const tk_tile *tile, const uint8_t *written) {
-    return tk_tile_has_load(TK_TILE_ARGUMENTS(tile), written, TK_MAP_BYTES);
+    return tk_tile_has_load(TK_TILE_ARGUMENTS(tile), written, TK_WRITTEN_BYTES);
 }
 
 static inline uint32_t tk_palette_nonreplicated_of(const uint8_t *bank, uint8_t *map) {
@@ -419,9 +451,10 @@ static inline tk_answer tk_key_of(const uint8_t *bank, const tk_tile *tile, uint
     return tk_key(bank, TK_BANK_BYTES, TK_TILE_ARGUMENTS(tile), lane, key, TK_BANK_BYTES);
 }
 
-static inline tk_answer tk_replay_record_of(uint8_t *bank, uint8_t *written, const uint8_t *record, uint64_t end,
-                                            const uint8_t *part, size_t part_length) {
-    return tk_replay_record(bank, TK_BANK_BYTES, written, TK_MAP_BYTES, record, TK_RECORD_BYTES, end, part, part_length);
+static inline tk_replay_answer tk_replay_record_of(uint8_t *bank, uint8_t *written, const uint8_t *record, uint64_t end,
+                                                   const uint8_t *part, size_t part_length, uint32_t last) {
+    return tk_replay_record(bank, TK_BANK_BYTES, written, TK_WRITTEN_BYTES, record, TK_RECORD_BYTES, end, part, part_length,
+                            last);
 }
 
 static inline tk_split_answer tk_split_of(uint32_t count, const uint8_t *entries, uint8_t *sides) {
@@ -441,7 +474,12 @@ static inline void tk_put_entry(uint8_t *entry, uint32_t capture, const tk_tile 
     for (size_t i = 0; i < TK_BANK_BYTES; i++) entry[21 + i] = key[i];
 }
 
-/* Whether address a is marked in a map. */
+/* Which load wrote address a: its number in a written record. 0 for none, and for an address that no bank has. */
+static inline uint32_t tk_written_by(const uint8_t *written, uint32_t a) {
+    return a < TK_BANK_BYTES ? (uint32_t)written[2 * a] << 8 | written[2 * a + 1] : 0;
+}
+
+/* Whether address a is marked in a reach map. */
 static inline int tk_is_marked(const uint8_t *map, uint32_t a) { return map[a / 8] >> (a % 8) & 1; }
 
 #ifdef __cplusplus

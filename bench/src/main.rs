@@ -9,7 +9,7 @@ use original::TileDescriptor;
 use std::hint::black_box;
 use std::process::ExitCode;
 use timing::{race, Pair};
-use tulonkasa::{slices, Tile, LOOKUP_TEXELS, SIDE_MOST};
+use tulonkasa::{slices, Tile, LOOKUP_TEXELS, SIDE_MOST, WRITTEN_BYTES};
 
 /// The goals for the ratios of archive to original.
 const GOAL: f64 = 0.5;
@@ -242,7 +242,7 @@ impl Bench {
         let old = descriptor(&tile);
         let source = bytes(16384);
         let mut memory = Memory::new(&self.bank);
-        let (mut bank, mut written) = (self.bank, [0; 512]);
+        let (mut bank, mut written) = (self.bank, [0; WRITTEN_BYTES]);
         let number = |number: usize| number as u32;
         let pair = race(
             self.rounds,
@@ -250,17 +250,18 @@ impl Bench {
             || {
                 let (bank, written, source, tile) =
                     (black_box(&mut bank), black_box(&mut written), black_box(&source), black_box(&tile));
+                let last = &mut black_box(1000);
                 black_box(match load {
                     Load::Block { dxt, words } => {
-                        slices::load_block(bank, written, source, tile, image_siz, dxt, number(words))
+                        slices::load_block(bank, written, source, tile, image_siz, dxt, number(words), last)
                     }
                     Load::Tile { rows, words, stride } => {
                         let (rows, words, stride) = (number(rows), number(words), number(stride));
-                        slices::load_tile(bank, written, source, tile, image_siz, rows, words, stride)
+                        slices::load_tile(bank, written, source, tile, image_siz, rows, words, stride, last)
                     }
                     Load::Tlut { count, rows, stride } => {
                         let (count, rows, stride) = (number(count), number(rows), number(stride));
-                        slices::load_tlut(bank, written, source, tile, image_siz, count, rows, stride)
+                        slices::load_tlut(bank, written, source, tile, image_siz, count, rows, stride, last)
                     }
                 })
                 .expect("in range");
@@ -334,7 +335,7 @@ impl Bench {
             slices::reach(black_box(tile), black_box(&mut map)).expect("in range");
         });
         self.row(format!("reach, {name}"), pair);
-        let written = [0; 512];
+        let written = [0; WRITTEN_BYTES];
         let pair = race(self.rounds, walk, || {
             black_box(slices::tile_has_load(black_box(tile), black_box(&written))).expect("in range");
         });

@@ -1,5 +1,6 @@
 /* An example: load a block, make a picture of it, write the picture as a file and read it back, cut the picture's key, and print
- * the bytes that the key keeps. Then replay a capture of the same load and key, and split six captures of the tile. */
+ * the bytes that the key keeps. Then load one word anew, and print which load each byte that the picture reads came from. Then
+ * replay a capture of the first load and the key, and split six captures of the tile. */
 
 #include <inttypes.h>
 #include <stdio.h>
@@ -14,7 +15,7 @@ static int refused(const char *what, uint32_t refusal) {
 }
 
 int main(void) {
-    static uint8_t bank[TK_BANK_BYTES], written[TK_MAP_BYTES], key[TK_BANK_BYTES], picture[4 * 4 * 2];
+    static uint8_t bank[TK_BANK_BYTES], written[TK_WRITTEN_BYTES], key[TK_BANK_BYTES], picture[4 * 4 * 2];
     static uint8_t file[TK_PAM_HEADER_MOST + sizeof picture], again[sizeof file];
 
     /* Two rows of four texels of 16 bits: red, green, magenta and white, then the same backwards. */
@@ -30,10 +31,11 @@ int main(void) {
     tk_tile load = tile;
     load.line = 0; /* a block load steps through memory on its own */
 
-    /* Two words; a dxt of 2,048 begins a new row at each. */
-    tk_load_answer loaded = tk_load_block_of(bank, written, source, sizeof source, &load, 2, 2048, 2);
+    /* Two words; a dxt of 2,048 begins a new row at each. No load was before this one, so the last number is 0. */
+    tk_load_answer loaded = tk_load_block_of(bank, written, source, sizeof source, &load, 2, 2048, 2, 0);
     if (refused("load", loaded.refusal)) return 1;
-    printf("stores: %" PRIu32 ", made up: %" PRIu32 "\n", loaded.count, loaded.made_up); /* the source is whole: 0 */
+    printf("load %" PRIu32 ": stores: %" PRIu32 ", made up: %" PRIu32 "\n", loaded.number, loaded.count,
+           loaded.made_up); /* the source is whole: 0 */
 
     tk_answer made = tk_sample_tile_of(bank, &tile, 0, picture, sizeof picture);
     if (refused("picture", made.refusal)) return 1;
@@ -63,6 +65,23 @@ int main(void) {
         if (key[a] != 0) printf("%" PRIu32 ": %02x\n", a, key[a]);
     }
 
+    /* The second row again, from a source that was cut short. The number of the load before is passed. */
+    load.tmem_addr = 1;
+    loaded = tk_load_block_of(bank, written, source, 6, &load, 2, 0, 1, loaded.number);
+    if (refused("load", loaded.refusal)) return 1;
+    printf("load %" PRIu32 ": stores: %" PRIu32 ", made up: %" PRIu32 "\n", loaded.number, loaded.count, loaded.made_up);
+
+    /* Which load the bytes came from: a trail has two bytes for each read, high byte first. */
+    static uint8_t trail[2 * TK_TEXEL_READS_MOST * 4 * 2];
+    made = tk_sample_tile_observed_of(bank, &tile, 0, picture, sizeof picture, trail, sizeof trail);
+    if (refused("picture", made.refusal)) return 1;
+    printf("written by:");
+    for (uint32_t i = 0; i < made.count; i++) {
+        uint32_t address = (uint32_t)trail[2 * i] << 8 | trail[2 * i + 1];
+        printf(" %" PRIu32, tk_written_by(written, address));
+    }
+    printf("\n");
+
     /* A capture whose companion file is the source above. The bytes that a record does not name here are 0. */
     static const uint8_t capture[2][TK_RECORD_BYTES] = {
         /* kind block, siz 2, image_siz 2, dxt 2,048, two words, a source of sixteen bytes at offset 0 */
@@ -70,10 +89,13 @@ int main(void) {
         /* kind key, siz 2, line 1, width 4, height 2 */
         {[0] = 3, [3] = 2, [11] = 1, [15] = 4, [17] = 2},
     };
-    static uint8_t fresh_bank[TK_BANK_BYTES], fresh_map[TK_MAP_BYTES];
+    static uint8_t fresh_bank[TK_BANK_BYTES], fresh_record[TK_WRITTEN_BYTES];
+    uint32_t last = 0;
     for (size_t i = 0; i < 2; i++) {
-        tk_answer done = tk_replay_record_of(fresh_bank, fresh_map, capture[i], sizeof source, source, sizeof source);
-        printf("replayed: %" PRIu32 " %" PRIu32 "\n", done.refusal, done.count);
+        tk_replay_answer done =
+            tk_replay_record_of(fresh_bank, fresh_record, capture[i], sizeof source, source, sizeof source, last);
+        last = done.number;
+        printf("replayed: %" PRIu32 " %" PRIu32 ", loads so far: %" PRIu32 "\n", done.refusal, done.count, last);
     }
 
     /* Captures 0 to 4 differ in the first texel. Capture 5 is the fifth again with another leftover byte, so its key is the same. */

@@ -6,7 +6,8 @@
 
 #include "tulonkasa.h"
 
-static uint8_t bank[TK_BANK_BYTES], written[TK_MAP_BYTES], map[TK_MAP_BYTES], lanes[TK_LANE_MAP_BYTES], key[TK_BANK_BYTES];
+static uint8_t bank[TK_BANK_BYTES], written[TK_WRITTEN_BYTES], map[TK_MAP_BYTES];
+static uint8_t long_record[TK_WRITTEN_BYTES + 1], lanes[TK_LANE_MAP_BYTES], key[TK_BANK_BYTES];
 static uint8_t picture[4 * TK_LOOKUP_TEXELS], trail[2 * TK_TEXEL_READS_MOST * TK_LOOKUP_TEXELS];
 static uint8_t source[64], part[TK_SOURCE_MOST + 1], file[TK_PAM_HEADER_MOST + 4 * TK_SIDE_MOST];
 static uint8_t entries[(TK_ENTRIES_MOST + 1) * TK_ENTRY_BYTES], sides[TK_ENTRIES_MOST + 1];
@@ -61,33 +62,41 @@ static void check_the_twelve(void) {
     }
 }
 
-/* Loads: four numbers of the tile, image_siz, and the load's own, each at its limit and one past it. */
+/* Whether a load answers a refusal and a number, and beside a refusal nothing else. */
+static int answers(tk_load_answer answer, uint32_t refusal, uint32_t number) {
+    return answer.refusal == refusal && answer.number == number && (refusal == 0 || answer.count + answer.made_up == 0);
+}
+
+/* Loads: four numbers of the tile, image_siz, the load's own, and the last number, each at its limit and one past it. */
 static void check_loads(void) {
-    static const uint32_t block_most[] = {7, 3, 511, 511, 3, 4095, 2048};
-    static const uint32_t tile_most[] = {7, 3, 511, 511, 3, 1024, 512, 65535};
-    static const uint32_t tlut_most[] = {7, 3, 511, 511, 3, 1024, 1024, 65535};
-    for (size_t i = 0; i < 8; i++) {
+    static const uint32_t block_most[] = {7, 3, 511, 511, 3, 4095, 2048, 65534};
+    static const uint32_t tile_most[] = {7, 3, 511, 511, 3, 1024, 512, 65535, 65534};
+    static const uint32_t tlut_most[] = {7, 3, 511, 511, 3, 1024, 1024, 65535, 65534};
+    for (size_t i = 0; i < 9; i++) {
         for (uint32_t past = 0; past < 2; past++) {
-            uint32_t b[7] = {0, 2, 1, 2, 2, 1, 2}, t[8] = {0, 2, 1, 2, 2, 1, 2, 8}, p[8] = {0, 2, 1, 2, 2, 4, 2, 8};
-            uint32_t refusal = past == 0 ? 0 : i < 4 ? 2 : 4;
-            if (i < 7) {
+            uint32_t b[8] = {0, 2, 1, 2, 2, 1, 2, 6}, t[9] = {0, 2, 1, 2, 2, 1, 2, 8, 6},
+                     p[9] = {0, 2, 1, 2, 2, 4, 2, 8, 6};
+            uint32_t refusal = past == 0 ? 0 : i < 4 ? 2 : 4, took = past == 0;
+            if (i < 8) {
                 b[i] = block_most[i] + past;
-                CHECK(tk_load_block(bank, sizeof bank, written, sizeof written, source, sizeof source, b[0], b[1], b[2],
-                                    b[3], b[4], b[5], b[6])
-                          .refusal == refusal);
+                CHECK(answers(tk_load_block(bank, sizeof bank, written, sizeof written, source, sizeof source, b[0], b[1],
+                                            b[2], b[3], b[4], b[5], b[6], b[7]),
+                              past == 1 && i == 7 ? 18 : refusal, b[7] + took));
             }
+            if (past == 1 && i == 8) refusal = 18;
             t[i] = tile_most[i] + past;
-            CHECK(tk_load_tile(bank, sizeof bank, written, sizeof written, source, sizeof source, t[0], t[1], t[2], t[3],
-                               t[4], t[5], t[6], t[7])
-                      .refusal == refusal);
+            CHECK(answers(tk_load_tile(bank, sizeof bank, written, sizeof written, source, sizeof source, t[0], t[1], t[2],
+                                       t[3], t[4], t[5], t[6], t[7], t[8]),
+                          refusal, t[8] + took));
             p[i] = tlut_most[i] + past;
-            CHECK(tk_load_tlut(bank, sizeof bank, written, sizeof written, source, sizeof source, p[0], p[1], p[2], p[3],
-                               p[4], p[5], p[6], p[7])
-                      .refusal == refusal);
+            CHECK(answers(tk_load_tlut(bank, sizeof bank, written, sizeof written, source, sizeof source, p[0], p[1], p[2],
+                                       p[3], p[4], p[5], p[6], p[7], p[8]),
+                          refusal, p[8] + took));
         }
     }
-    CHECK(tk_load_tlut(bank, sizeof bank, written, sizeof written, source, sizeof source, 0, 0, 0, 0, 0, 1, 0, 0).refusal ==
-          4);
+    CHECK(answers(
+        tk_load_tlut(bank, sizeof bank, written, sizeof written, source, sizeof source, 0, 0, 0, 0, 0, 1, 0, 0, 65535), 4,
+        65535));
 }
 
 /* What a record's fields are held against: where each stands, its bytes, the most that a block, tile, palette and key take of
@@ -128,7 +137,7 @@ static const struct {
 static uint32_t replayed_with(uint8_t kind, size_t place, size_t bytes, uint32_t number) {
     uint8_t record[TK_RECORD_BYTES] = {[0] = kind, [5] = 2, [25] = 1};
     for (size_t i = bytes; i > 0; i--, number >>= 8) record[place + i - 1] = (uint8_t)number;
-    return tk_replay_record_of(bank, written, record, sizeof part, part, sizeof part).refusal;
+    return tk_replay_record_of(bank, written, record, sizeof part, part, sizeof part, 0).refusal;
 }
 
 /* Each field of a record is taken up to its limit and refused past it, and one that a kind does not take may hold anything. */
@@ -145,32 +154,51 @@ static void check_fields(void) {
     CHECK(replayed_with(255, 2, 1, 7) == 10);
 }
 
-/* A record's other arguments: the length of each buffer, and the companion's, which needs more than 32 bits. */
+/* A record's other arguments: the length of each buffer, the companion's, which needs more than 32 bits, and the last number. */
 static void check_record(void) {
-    /* a block of no words, of eight bytes at offset 2^32 - 1 */
+    /* a block of no words, of eight bytes at offset 2^32 - 1; and a key */
     static const uint8_t record[TK_RECORD_BYTES + 1] = {[30] = 255, [31] = 255, [32] = 255, [33] = 255, [37] = 8};
+    static const uint8_t key_of_none[TK_RECORD_BYTES] = {[0] = 3, [3] = 2};
     uint64_t end = 0x100000007;
-    CHECK(tk_replay_record(bank, 4096, written, 512, record, 48, end, part, 8).refusal == 0);
-    CHECK(tk_replay_record(bank, 4096, written, 512, record, 49, UINT64_MAX, part, 9).refusal == 0);
-    CHECK(tk_replay_record(bank, 4095, written, 512, record, 48, end, part, 8).refusal == 1);
-    CHECK(tk_replay_record(bank, 4096, written, 511, record, 48, end, part, 8).refusal == 1);
-    CHECK(tk_replay_record(bank, 4096, written, 512, record, 47, end, part, 8).refusal == 8);
-    CHECK(tk_replay_record(bank, 4096, written, 512, record, 48, end - 1, part, 8).refusal == 11);
-    CHECK(tk_replay_record(bank, 4096, written, 512, record, 48, end, part, 7).refusal == 11);
+    CHECK(tk_replay_record(bank, 4096, written, 8192, record, 48, end, part, 8, 0).refusal == 0);
+    CHECK(tk_replay_record(bank, 4096, written, 8192, record, 49, UINT64_MAX, part, 9, 0).refusal == 0);
+    CHECK(tk_replay_record(bank, 4095, written, 8192, record, 48, end, part, 8, 0).refusal == 1);
+    CHECK(tk_replay_record(bank, 4096, written, 8191, record, 48, end, part, 8, 0).refusal == 1);
+    CHECK(tk_replay_record(bank, 4096, written, 512, record, 48, end, part, 8, 0).refusal == 1);
+    CHECK(tk_replay_record(bank, 4096, written, 8192, record, 47, end, part, 8, 0).refusal == 8);
+    CHECK(tk_replay_record(bank, 4096, written, 8192, record, 48, end - 1, part, 8, 0).refusal == 11);
+    CHECK(tk_replay_record(bank, 4096, written, 8192, record, 48, end, part, 7, 0).refusal == 11);
+
+    static const uint32_t past[] = {65535, 65536, UINT32_MAX};
+    tk_replay_answer answer = tk_replay_record_of(bank, written, record, end, part, 8, 65534);
+    CHECK(answer.refusal == 0 && answer.count == 0 && answer.number == 65535);
+    for (size_t i = 0; i < 3; i++) {
+        answer = tk_replay_record_of(bank, written, record, end, part, 8, past[i]);
+        CHECK(answer.refusal == 18 && answer.count == 0 && answer.number == past[i]);
+        answer = tk_replay_record_of(bank, written, record, end - 1, part, 8, past[i]);
+        CHECK(answer.refusal == 11 && answer.count == 0 && answer.number == past[i]);
+        answer = tk_replay_record_of(bank, written, key_of_none, end, NULL, 0, past[i]);
+        CHECK(answer.refusal == 0 && answer.count == 0 && answer.number == past[i]);
+    }
 }
 
 /* Lengths and lane: each buffer one short, and a lane of 4. */
 static void check_lengths(void) {
     tk_tile tile = plain_tile();
     const tk_tile *t = &tile;
-    CHECK(tk_load_block(bank, 4095, written, 512, source, 64, 0, 0, 0, 0, 0, 0, 0).refusal == 1);
-    CHECK(tk_load_block(bank, 4096, written, 511, source, 64, 0, 0, 0, 0, 0, 0, 0).refusal == 1);
-    CHECK(tk_load_tile(bank, 4095, written, 512, source, 64, 0, 0, 0, 0, 0, 0, 0, 0).refusal == 1);
-    CHECK(tk_load_tile(bank, 4096, written, 511, source, 64, 0, 0, 0, 0, 0, 0, 0, 0).refusal == 1);
-    CHECK(tk_load_tlut(bank, 4095, written, 512, source, 64, 0, 0, 0, 0, 0, 0, 1, 0).refusal == 1);
-    CHECK(tk_load_tlut(bank, 4096, written, 511, source, 64, 0, 0, 0, 0, 0, 0, 1, 0).refusal == 1);
+    /* The two lengths beside the right one; and a reach map's for a written record, and the other way round. */
+    static const size_t bad[] = {8191, 8193, 512};
+    CHECK(tk_load_block(bank, 4095, written, 8192, source, 64, 0, 0, 0, 0, 0, 0, 0, 0).refusal == 1);
+    CHECK(tk_load_tile(bank, 4095, written, 8192, source, 64, 0, 0, 0, 0, 0, 0, 0, 0, 0).refusal == 1);
+    CHECK(tk_load_tlut(bank, 4095, written, 8192, source, 64, 0, 0, 0, 0, 0, 0, 1, 0, 0).refusal == 1);
+    for (size_t i = 0; i < 3; i++) {
+        CHECK(answers(tk_load_block(bank, 4096, long_record, bad[i], source, 64, 0, 0, 0, 0, 0, 0, 0, 65535), 1, 65535));
+        CHECK(answers(tk_load_tile(bank, 4096, long_record, bad[i], source, 64, 0, 0, 0, 0, 0, 0, 0, 0, 9), 1, 9));
+        CHECK(answers(tk_load_tlut(bank, 4096, long_record, bad[i], source, 64, 0, 0, 0, 0, 0, 0, 1, 0, 0), 1, 0));
+        CHECK(tk_tile_has_load(TK_TILE_ARGUMENTS(t), long_record, bad[i]).refusal == 1);
+    }
     CHECK(tk_reach(TK_TILE_ARGUMENTS(t), map, 511) == 1);
-    CHECK(tk_tile_has_load(TK_TILE_ARGUMENTS(t), written, 511).refusal == 1);
+    CHECK(tk_reach(TK_TILE_ARGUMENTS(t), long_record, 8192) == 1);
     CHECK(tk_palette_nonreplicated(bank, 4095, lanes, 32) == 1);
     CHECK(tk_palette_nonreplicated(bank, 4096, lanes, 31) == 1);
     CHECK(tk_key(bank, 4095, TK_TILE_ARGUMENTS(t), 0, key, 4096).refusal == 1);
@@ -271,9 +299,13 @@ static void check_answers(void) {
     CHECK(tk_reach_of(&tile, map) == 0 && tk_is_marked(map, 16) && tk_is_marked(map, 30) && !tk_is_marked(map, 19));
     tk_yes_answer yes = tk_tile_has_load_of(&tile, written);
     CHECK(yes.refusal == 0 && yes.yes == 0);
-    written[3] = 0x40;
-    yes = tk_tile_has_load_of(&tile, written);
-    CHECK(yes.refusal == 0 && yes.yes == 1);
+    /* Address 30 is reached, and 31 is not; either byte of a number counts. */
+    for (size_t i = 60; i < 64; i++) {
+        memset(written, 0, sizeof written);
+        written[i] = 1;
+        yes = tk_tile_has_load_of(&tile, written);
+        CHECK(yes.refusal == 0 && yes.yes == (i < 62));
+    }
 
     tk_answer answer = tk_key_of(bank, &tile, 0, key);
     CHECK(answer.refusal == 0 && answer.count == 6 && key[16] == 16 && key[30] == 30 && key[19] == 0 && key[4095] == 0);
@@ -287,32 +319,47 @@ static void check_answers(void) {
     CHECK(tk_palette_nonreplicated_of(bank, lanes) == 0 && lanes[0] == 255 && lanes[31] == 255);
 }
 
+/* Whether a load is not refused, and answers so many stores, so many of them made up, and a number. */
+static int loaded(tk_load_answer answer, uint32_t count, uint32_t made_up, uint32_t number) {
+    return answer.refusal == 0 && answer.count == count && answer.made_up == made_up && answer.number == number;
+}
+
+/* Whether a number stands at the addresses from one up to another, and another number at both sides of them. */
+static int written_from(uint32_t from, uint32_t to, uint32_t number) {
+    int all = tk_written_by(written, to) != number && (from == 0 || tk_written_by(written, from - 1) != number);
+    for (uint32_t a = from; a < to; a++) all = all && tk_written_by(written, a) == number;
+    return all;
+}
+
 /* What the loads answer and leave: a word of eight bytes at address 16; then one in row 1; then palette entries. */
 static void check_load_answers(void) {
     tk_tile load = {0, 2, 0, 0, 0, 0, 0, 0, 1, 2, 0, 0};
     memset(written, 0, sizeof written);
     for (uint32_t i = 0; i < sizeof source; i++) source[i] = (uint8_t)(100 + i);
-    tk_load_answer answer = tk_load_block_of(bank, written, source, sizeof source, &load, 2, 0, 1);
-    CHECK(answer.refusal == 0 && answer.count == 8 && answer.made_up == 0);
-    CHECK(bank[16] == 100 && bank[23] == 107 && written[2] == 255);
-    answer = tk_load_tile_of(bank, written, source, sizeof source, &load, 2, 2, 1, 16);
-    CHECK(answer.refusal == 0 && answer.count == 16 && answer.made_up == 0);
-    CHECK(bank[16] == 100 && bank[28] == 116 && written[3] == 255);
-    answer = tk_load_tlut_of(bank, written, source, sizeof source, &load, 0, 2, 2, 16);
-    CHECK(answer.refusal == 0 && answer.count == 32 && answer.made_up == 0);
+    CHECK(loaded(tk_load_block_of(bank, written, source, sizeof source, &load, 2, 0, 1, 0), 8, 0, 1));
+    CHECK(bank[16] == 100 && bank[23] == 107 && written_from(16, 24, 1) && written[33] == 1);
+    CHECK(loaded(tk_load_tile_of(bank, written, source, sizeof source, &load, 2, 2, 1, 16, 1), 16, 0, 2));
+    CHECK(bank[16] == 100 && bank[28] == 116 && written_from(16, 32, 2));
+    CHECK(loaded(tk_load_tlut_of(bank, written, source, sizeof source, &load, 0, 2, 2, 16, 255), 32, 0, 256));
     CHECK(bank[16] == 100 && bank[24] == 102 && bank[48] == 116 && bank[56] == 118);
+    CHECK(written_from(16, 32, 256) && written_from(48, 64, 256) && written[32] == 1 && written[33] == 0);
 
     /* The same with a source that is cut short. Each byte of a palette entry is stored four times. */
-    answer = tk_load_block_of(bank, written, source, 5, &load, 2, 0, 1);
-    CHECK(answer.refusal == 0 && answer.count == 8 && answer.made_up == 3 && bank[20] == 104 && bank[21] == 0);
-    answer = tk_load_tile_of(bank, written, source, 22, &load, 2, 2, 1, 16);
-    CHECK(answer.refusal == 0 && answer.count == 16 && answer.made_up == 2 && bank[25] == 121 && bank[26] == 0);
-    answer = tk_load_tlut_of(bank, written, source, 19, &load, 0, 2, 2, 16);
-    CHECK(answer.refusal == 0 && answer.count == 32 && answer.made_up == 4 && bank[62] == 118 && bank[63] == 0);
-    answer = tk_load_tlut_of(bank, written, source, 3, &load, 2, 2, 1, 0);
-    CHECK(answer.refusal == 0 && answer.count == 16 && answer.made_up == 4);
-    answer = tk_load_tlut_of(bank, written, source, 3, &load, 2, 2, 0, 0);
-    CHECK(answer.refusal == 4 && answer.count == 0 && answer.made_up == 0);
+    CHECK(loaded(tk_load_block_of(bank, written, source, 5, &load, 2, 0, 1, 256), 8, 3, 257));
+    CHECK(bank[20] == 104 && bank[21] == 0 && written_from(16, 24, 257) && written_from(24, 32, 256));
+    CHECK(loaded(tk_load_tile_of(bank, written, source, 22, &load, 2, 2, 1, 16, 65533), 16, 2, 65534));
+    CHECK(bank[25] == 121 && bank[26] == 0 && written_from(16, 32, 65534));
+    CHECK(loaded(tk_load_tlut_of(bank, written, source, 19, &load, 0, 2, 2, 16, 65534), 32, 4, 65535));
+    CHECK(bank[62] == 118 && bank[63] == 0 && written_from(16, 32, 65535) && written_from(48, 64, 65535));
+    CHECK(loaded(tk_load_tlut_of(bank, written, source, 3, &load, 2, 2, 1, 0, 7), 16, 4, 8));
+    CHECK(answers(tk_load_tlut_of(bank, written, source, 3, &load, 2, 2, 0, 0, 65535), 4, 65535));
+    CHECK(answers(tk_load_tlut_of(bank, written, source, 3, &load, 2, 2, 1, 0, UINT32_MAX), 18, UINT32_MAX));
+    CHECK(tk_written_by(written, TK_BANK_BYTES) == 0 && tk_written_by(written, UINT32_MAX) == 0);
+}
+
+/* Whether a record is not refused, and answers a count and a number. */
+static int replayed(tk_replay_answer answer, uint32_t count, uint32_t number) {
+    return answer.refusal == 0 && answer.count == count && answer.number == number;
 }
 
 /* The same loads by records, with sources at offsets of the companion; and keys of two tiles of check_answers. */
@@ -326,21 +373,20 @@ static void check_replay(void) {
     static const uint8_t key_of_repeating[TK_RECORD_BYTES] = {3, 0, 4, 1, 1, 1, 0, 2, 1, 1, 0, 1, 0, 2, 0, 3, 0, 2};
     memset(bank, 0, sizeof bank);
     memset(written, 0, sizeof written);
-    tk_answer answer = tk_replay_record_of(bank, written, block, sizeof source, source, sizeof source);
-    CHECK(answer.refusal == 0 && answer.count == 8 && bank[16] == 100 && bank[23] == 107 && bank[24] == 0);
-    CHECK(written[2] == 255 && written[3] == 0);
-    answer = tk_replay_record_of(bank, written, tile, sizeof source, source + 1, sizeof source - 1);
-    CHECK(answer.refusal == 0 && answer.count == 16 && bank[16] == 101 && bank[28] == 117 && written[3] == 255);
+    CHECK(replayed(tk_replay_record_of(bank, written, block, sizeof source, source, sizeof source, 0), 8, 1));
+    CHECK(bank[16] == 100 && bank[23] == 107 && bank[24] == 0 && written_from(16, 24, 1));
+    CHECK(replayed(tk_replay_record_of(bank, written, tile, sizeof source, source + 1, sizeof source - 1, 1), 16, 2));
+    CHECK(bank[16] == 101 && bank[28] == 117 && written_from(16, 32, 2));
     CHECK(bank[31] == 120 && bank[24] == 0); /* the source ends inside the second row */
-    answer = tk_replay_record_of(bank, written, tlut, sizeof source, source + 2, sizeof source - 2);
-    CHECK(answer.refusal == 0 && answer.count == 32 && bank[16] == 102 && bank[24] == 104 && bank[48] == 118 &&
-          bank[56] == 120);
+    CHECK(
+        replayed(tk_replay_record_of(bank, written, tlut, sizeof source, source + 2, sizeof source - 2, 65534), 32, 65535));
+    CHECK(bank[16] == 102 && bank[24] == 104 && bank[48] == 118 && bank[56] == 120);
+    CHECK(written_from(16, 32, 65535) && written_from(48, 64, 65535));
     uint8_t before[TK_BANK_BYTES];
     memcpy(before, bank, sizeof bank);
-    answer = tk_replay_record_of(bank, written, key_of_tile, 0, NULL, 0);
-    CHECK(answer.refusal == 0 && answer.count == 6 && memcmp(before, bank, sizeof bank) == 0);
-    answer = tk_replay_record_of(bank, written, key_of_repeating, 0, NULL, 0);
-    CHECK(answer.refusal == 0 && answer.count == 4 && memcmp(before, bank, sizeof bank) == 0);
+    CHECK(replayed(tk_replay_record_of(bank, written, key_of_tile, 0, NULL, 0, 65535), 6, 65535));
+    CHECK(replayed(tk_replay_record_of(bank, written, key_of_repeating, 0, NULL, 0, UINT32_MAX), 4, UINT32_MAX));
+    CHECK(memcmp(before, bank, sizeof bank) == 0 && written_from(16, 32, 65535));
 }
 
 /* The count is taken up to its limit and refused past it, whatever the lengths are; each length must be the right one. */
@@ -390,16 +436,16 @@ static int all_made_up(tk_load_answer answer) { return answer.count == 8 && answ
 static void check_null(void) {
     tk_tile tile = with(plain_tile(), 10, 0);
     const tk_tile *t = &tile;
-    CHECK(all_made_up(tk_load_block(bank, sizeof bank, written, sizeof written, NULL, 0, 0, 2, 0, 0, 2, 0, 1)));
-    CHECK(all_made_up(tk_load_tile(bank, sizeof bank, written, sizeof written, NULL, 0, 0, 2, 0, 0, 2, 1, 1, 0)));
-    CHECK(all_made_up(tk_load_tlut(bank, sizeof bank, written, sizeof written, NULL, 0, 0, 2, 0, 0, 2, 1, 1, 0)));
+    CHECK(all_made_up(tk_load_block(bank, sizeof bank, written, sizeof written, NULL, 0, 0, 2, 0, 0, 2, 0, 1, 0)));
+    CHECK(all_made_up(tk_load_tile(bank, sizeof bank, written, sizeof written, NULL, 0, 0, 2, 0, 0, 2, 1, 1, 0, 0)));
+    CHECK(all_made_up(tk_load_tlut(bank, sizeof bank, written, sizeof written, NULL, 0, 0, 2, 0, 0, 2, 1, 1, 0, 0)));
     CHECK(tk_sample_tile_of(bank, t, 0, NULL, 0).refusal == 0);
     CHECK(tk_sample_tile_observed_of(bank, t, 0, NULL, 0, NULL, 0).refusal == 0);
     CHECK(tk_sampling_lookup_of(bank, t, 0, NULL, 0).refusal == 6);
     CHECK(tk_sampling_lookup_observed_of(bank, t, 0, picture, sizeof picture, NULL, 0).refusal == 7);
-    CHECK(tk_load_block(NULL, 0, NULL, 0, NULL, 0, 0, 0, 0, 0, 0, 0, 0).refusal == 1);
-    CHECK(tk_load_tile(NULL, 0, NULL, 0, NULL, 0, 0, 0, 0, 0, 0, 0, 0, 0).refusal == 1);
-    CHECK(tk_load_tlut(NULL, 0, NULL, 0, NULL, 0, 0, 0, 0, 0, 0, 0, 1, 0).refusal == 1);
+    CHECK(tk_load_block(NULL, 0, NULL, 0, NULL, 0, 0, 0, 0, 0, 0, 0, 0, 0).refusal == 1);
+    CHECK(tk_load_tile(NULL, 0, NULL, 0, NULL, 0, 0, 0, 0, 0, 0, 0, 0, 0, 0).refusal == 1);
+    CHECK(tk_load_tlut(NULL, 0, NULL, 0, NULL, 0, 0, 0, 0, 0, 0, 0, 1, 0, 0).refusal == 1);
     CHECK(tk_write_pam(1, 1, NULL, 0, NULL, 0).refusal == 6);
     CHECK(tk_read_pam(NULL, 0, NULL, 0).refusal == 13);
     tk_split_answer nothing = tk_split(0, NULL, 0, NULL, 0);
@@ -410,9 +456,9 @@ static void check_null(void) {
     CHECK(tk_palette_nonreplicated(NULL, 0, NULL, 0) == 1);
     CHECK(tk_key(NULL, 0, TK_TILE_ARGUMENTS(t), 0, NULL, 0).refusal == 1);
     static const uint8_t empty_block[TK_RECORD_BYTES];
-    CHECK(tk_replay_record_of(bank, written, empty_block, 0, NULL, 0).refusal == 0);
-    CHECK(tk_replay_record(bank, sizeof bank, written, sizeof written, NULL, 0, 0, NULL, 0).refusal == 8);
-    CHECK(tk_replay_record(NULL, 0, NULL, 0, NULL, 0, 0, NULL, 0).refusal == 1);
+    CHECK(tk_replay_record_of(bank, written, empty_block, 0, NULL, 0, 0).refusal == 0);
+    CHECK(tk_replay_record(bank, sizeof bank, written, sizeof written, NULL, 0, 0, NULL, 0, 0).refusal == 8);
+    CHECK(tk_replay_record(NULL, 0, NULL, 0, NULL, 0, 0, NULL, 0, 0).refusal == 1);
 }
 
 int main(void) {

@@ -4,9 +4,9 @@
  *     rough SECONDS SEED [CALLS]      until the time is up, or for so many calls
  *
  * Each buffer lies against a page that cannot be touched, at its end or at its start, so that the archive cannot reach
- * outside it unseen. After each call its refusal and its counts are held against what documents 01 and 02 say, worked out here
- * on their own, its other answers against 0 where it refused, and every byte that must not have changed against a copy. Of a file
- * with changed bytes only the numbers that reading can refuse are known. */
+ * outside it unseen. After each call its refusal, its counts and a load's number are held against what documents 01 and 02 say,
+ * worked out here on their own, its other answers against 0 where it refused, and every byte that must not have changed against a
+ * copy. Of a file with changed bytes only the numbers that reading can refuse are known. */
 
 #include <stdbool.h>
 #include <stdio.h>
@@ -57,8 +57,9 @@ typedef struct buffer {
 enum { BANK, WRITTEN, SOURCE, PICTURE, TRAIL, MAP, LANES, KEY, RECORD, PAM, TO_SPLIT, SIDES, BUFFERS };
 
 static buffer buffers[BUFFERS];
-static const char *const buffer_names[BUFFERS] = {"bank",     "written map", "source", "picture", "trail",   "reach map",
-                                                  "lane map", "key",         "record", "file",    "entries", "sides"};
+static const char *const buffer_names[BUFFERS] = {"bank",   "written record", "source",   "picture",
+                                                  "trail",  "reach map",      "lane map", "key",
+                                                  "record", "file",           "entries",  "sides"};
 
 /* Where the body of an entry begins, behind its capture number. */
 enum { BODY_AT = 4 };
@@ -66,9 +67,9 @@ enum { BODY_AT = 4 };
 /* A header that is made here has at most this many bytes. */
 enum { HEADER_ROOM = 8192 };
 
-/* The right lengths of bank, written map, reach map, lane map, key and record; the most for the others. */
+/* The right lengths of bank, written record, reach map, lane map, key and record; the most for the others. */
 static const size_t right_length[BUFFERS] = {TK_BANK_BYTES,
-                                             TK_MAP_BYTES,
+                                             TK_WRITTEN_BYTES,
                                              TK_SOURCE_MOST,
                                              4 * TK_SIDE_MOST *TK_SIDE_MOST,
                                              8 * TK_SIDE_MOST *TK_SIDE_MOST,
@@ -188,6 +189,7 @@ static struct {
     int entry, does; /* what it does: the entry's own work, or what its record asks for */
     tk_tile tile;
     uint32_t lane, image_siz, numbers[3]; /* dxt, words; or rows, words, stride; or count, rows, stride */
+    uint32_t last;                        /* the number of the load before */
     uint32_t kind, offset, length;        /* of a record */
     uint64_t end;                         /* the companion's length */
     uint32_t count;                       /* of entries to split */
@@ -200,8 +202,8 @@ static struct {
     } header;                           /* of a file to be read; its picture is the tile's width by height */
 } now;
 
-/* What was answered. Entries with fewer numbers leave the rest 0. */
-static struct { uint32_t refusal, numbers[3]; } answer;
+/* What was answered: the refusal, the number of the last load, and the others. Entries with fewer leave the rest 0. */
+static struct { uint32_t refusal, number, numbers[3]; } answer;
 
 static void print_call(void) {
     const tk_tile *t = &now.tile;
@@ -210,8 +212,8 @@ static void print_call(void) {
         "  %s: fmt %u siz %u palette %u mode %u cms %u cmt %u masks %u maskt %u line %u tmem_addr %u width %u height %u\n",
         entry_names[now.entry], t->fmt, t->siz, t->palette, t->mode, t->cms, t->cmt, t->masks, t->maskt, t->line,
         t->tmem_addr, t->width, t->height);
-    fprintf(stderr, "  lane %u image_siz %u numbers %u %u %u\n", now.lane, now.image_siz, now.numbers[0], now.numbers[1],
-            now.numbers[2]);
+    fprintf(stderr, "  lane %u image_siz %u numbers %u %u %u last %u\n", now.lane, now.image_siz, now.numbers[0],
+            now.numbers[1], now.numbers[2], now.last);
     if (now.entry == REPLAY_RECORD) {
         fprintf(stderr, "  kind %u offset %u length %u end %llu\n", now.kind, now.offset, now.length,
                 (unsigned long long)now.end);
@@ -230,8 +232,8 @@ static void print_call(void) {
 }
 
 static void fail(const char *what) {
-    fprintf(stderr, "rough: %s (refusal %u, numbers %u %u %u)\n", what, answer.refusal, answer.numbers[0],
-            answer.numbers[1], answer.numbers[2]);
+    fprintf(stderr, "rough: %s (refusal %u, numbers %u %u %u, of the last load %u)\n", what, answer.refusal,
+            answer.numbers[0], answer.numbers[1], answer.numbers[2], answer.number);
     print_call();
     _exit(1);
 }
@@ -324,18 +326,27 @@ static uint32_t expected_refusal(void) {
     if ((takes & (TAKES_PICTURE | TAKES_SIDES)) && buffers[PICTURE].length < 4 * texels()) return 6;
     if ((takes & TAKES_SIDES) && buffers[PAM].length < file_bytes()) return 6;
     if ((takes & TAKES_TRAIL) && buffers[TRAIL].length / 2 < reads_each() * texels()) return 7;
+    if ((takes & TAKES_LOAD) && now.last > 65534) return 18;
     return 0;
+}
+
+/* The number that is handed back: by a load that is done its own, else the one passed; 0 by entries that take none. */
+static uint32_t expected_number(void) {
+    bool takes_last = (entries[now.entry].takes & (TAKES_LOAD | TAKES_RECORD)) != 0;
+    bool took = (entries[now.does].takes & TAKES_LOAD) != 0 && answer.refusal == 0;
+    return takes_last ? now.last + took : 0;
 }
 
 /* ---- Making a call -------------------------------------------------------------------------------------------------- */
 
-/* A length: mostly the right one, else beside it, or any up to the room. */
+/* A length: mostly the right one, else beside it, that of a reach map or of a written record, or any up to the room. */
 static size_t some_length(int i, size_t right) {
     if (!one_in(16)) return right;
-    switch (up_to(4)) {
+    switch (up_to(5)) {
         case 0: return 0;
         case 1: return right == 0 ? 1 : right - 1;
         case 2: return right + 1;
+        case 3: return one_in(2) ? TK_MAP_BYTES : TK_WRITTEN_BYTES;
         default: return up_to((uint32_t)buffers[i].room);
     }
 }
@@ -370,15 +381,21 @@ static void choose_load(void) {
     }
 }
 
+/* The number of the load before: mostly one that leaves some, near the limits of its bytes as often as not. */
+static void choose_last(void) {
+    static const uint32_t limits[] = {1, 255, 256, 65280, 65534};
+    now.last = one_in(2) ? up_to(65534) : limits[up_to(4)] - up_to(1);
+}
+
 /* Puts one number outside its range, or anywhere. */
 static void break_one(void) {
-    static const uint32_t most[17] = {7, 3, 15,   3,    3,    3, 15, 15, 511, 511, TK_SIDE_MOST, TK_SIDE_MOST,
-                                      3, 3, 4095, 2048, 65535};
-    uint32_t *numbers[17] = {&now.tile.fmt,   &now.tile.siz,    &now.tile.palette, &now.tile.mode, &now.tile.cms,
+    static const uint32_t most[18] = {7, 3, 15,   3,    3,     3,    15, 15, 511, 511, TK_SIDE_MOST, TK_SIDE_MOST,
+                                      3, 3, 4095, 2048, 65535, 65534};
+    uint32_t *numbers[18] = {&now.tile.fmt,   &now.tile.siz,    &now.tile.palette, &now.tile.mode, &now.tile.cms,
                              &now.tile.cmt,   &now.tile.masks,  &now.tile.maskt,   &now.tile.line, &now.tile.tmem_addr,
                              &now.tile.width, &now.tile.height, &now.lane,         &now.image_siz, &now.numbers[0],
-                             &now.numbers[1], &now.numbers[2]};
-    uint32_t i = up_to(16);
+                             &now.numbers[1], &now.numbers[2],  &now.last};
+    uint32_t i = one_in(6) ? 17 : up_to(17);
     switch (up_to(3)) {
         case 0: *numbers[i] = most[i] + 1; break;
         case 1: *numbers[i] = UINT32_MAX; break;
@@ -394,6 +411,7 @@ static void break_all(void) {
     now.lane = any_number();
     now.image_siz = any_number();
     for (int i = 0; i < 3; i++) now.numbers[i] = any_number();
+    now.last = any_number();
 }
 
 /* Moves a number into its field of the record, or out of it. Either way it is then what the field holds. */
@@ -603,6 +621,7 @@ static void choose_call(void) {
     memset(now.numbers, 0, sizeof now.numbers);
     choose_tile();
     choose_load();
+    choose_last();
     now.lane = up_to(3);
     if (one_in(4)) {
         break_all();
@@ -629,6 +648,13 @@ static void set_load_answer(tk_load_answer given) {
     answer.refusal = given.refusal;
     answer.numbers[0] = given.count;
     answer.numbers[1] = given.made_up;
+    answer.number = given.number;
+}
+
+static void set_replay_answer(tk_replay_answer given) {
+    answer.refusal = given.refusal;
+    answer.numbers[0] = given.count;
+    answer.number = given.number;
 }
 
 static void make_call(void) {
@@ -638,15 +664,15 @@ static void make_call(void) {
     switch (now.entry) {
         case LOAD_BLOCK:
             set_load_answer(tk_load_block(LENT(BANK), LENT(WRITTEN), LENT(SOURCE), t->fmt, t->siz, t->line, t->tmem_addr,
-                                          now.image_siz, n[0], n[1]));
+                                          now.image_siz, n[0], n[1], now.last));
             break;
         case LOAD_TILE:
             set_load_answer(tk_load_tile(LENT(BANK), LENT(WRITTEN), LENT(SOURCE), t->fmt, t->siz, t->line, t->tmem_addr,
-                                         now.image_siz, n[0], n[1], n[2]));
+                                         now.image_siz, n[0], n[1], n[2], now.last));
             break;
         case LOAD_TLUT:
             set_load_answer(tk_load_tlut(LENT(BANK), LENT(WRITTEN), LENT(SOURCE), t->fmt, t->siz, t->line, t->tmem_addr,
-                                         now.image_siz, n[0], n[1], n[2]));
+                                         now.image_siz, n[0], n[1], n[2], now.last));
             break;
         case SAMPLING: {
             tk_sampling_answer given = tk_sampling(TK_TILE_ARGUMENTS(t));
@@ -676,7 +702,7 @@ static void make_call(void) {
         case PALETTE_NONREPLICATED: answer.refusal = tk_palette_nonreplicated(LENT(BANK), LENT(LANES)); break;
         case CUT_KEY: set_answer(tk_key(LENT(BANK), TK_TILE_ARGUMENTS(t), now.lane, LENT(KEY))); break;
         case REPLAY_RECORD:
-            set_answer(tk_replay_record(LENT(BANK), LENT(WRITTEN), LENT(RECORD), now.end, LENT(SOURCE)));
+            set_replay_answer(tk_replay_record(LENT(BANK), LENT(WRITTEN), LENT(RECORD), now.end, LENT(SOURCE), now.last));
             break;
         case WRITE_PAM: set_answer(tk_write_pam(t->width, t->height, LENT(PICTURE), LENT(PAM))); break;
         case READ_PAM: {
@@ -744,6 +770,23 @@ static void check_load_counts(void) {
     if (answer.numbers[1] != (now.entry == REPLAY_RECORD ? 0 : past_end * w.times)) fail("the made-up count");
 }
 
+/* What a load left in the written record: the load's number or what was there, and its number where a byte of the bank is another.
+ * A load of no stores leaves all as it was. */
+static void check_numbers(void) {
+    const buffer *bank = &buffers[BANK], *written = &buffers[WRITTEN];
+    const uint8_t *bank_before = bank->copy + (bank->lent - bank->memory);
+    const uint8_t *before = written->copy + (written->lent - written->memory);
+    uint32_t numbered = 0;
+    for (uint32_t a = 0; a < TK_BANK_BYTES; a++) {
+        bool is_own = tk_written_by(written->lent, a) == now.last + 1;
+        bool as_before = memcmp(written->lent + 2 * a, before + 2 * a, 2) == 0;
+        if (!is_own && !as_before) fail("a number that is neither the load's nor the one before");
+        if (!is_own && bank->lent[a] != bank_before[a]) fail("a changed byte without the load's number");
+        numbered += is_own && !as_before;
+    }
+    if (numbered > answer.numbers[0]) fail("more addresses with the load's number than stores");
+}
+
 /* What a writing answered and left. */
 static void check_written(void) {
     char text[TK_PAM_HEADER_MOST + 1];
@@ -785,7 +828,10 @@ static void check_counts(void) {
     if (now.entry == SPLIT) check_split();
     if (now.entry == WRITE_PAM) check_written();
     if (now.entry == READ_PAM) check_read();
-    if (entries[now.does].takes & TAKES_LOAD) check_load_counts();
+    if (entries[now.does].takes & TAKES_LOAD) {
+        check_load_counts();
+        check_numbers();
+    }
     bool picture = entries[now.does].takes & TAKES_PICTURE;
     if (picture && answer.numbers[0] != reads_each() * texels()) fail("the count of reads");
 }
@@ -812,6 +858,7 @@ static void check_call(bool whole) {
         fail("the refusal");
     }
     if (refusal != 0 && (answer.numbers[0] | answer.numbers[1] | answer.numbers[2]) != 0) fail("numbers beside a refusal");
+    if (answer.number != expected_number()) fail("the number handed back");
     if (refusal == 0) check_counts();
     for (int i = 0; i < BUFFERS; i++) {
         bool written = entries[now.entry].written >> i & 1, lent = written || (entries[now.entry].read >> i & 1);
@@ -820,7 +867,7 @@ static void check_call(bool whole) {
 }
 
 /* How often each number was answered, by entry. */
-enum { NUMBERS = 18 };
+enum { NUMBERS = 19 };
 static uint64_t answered[ENTRIES][NUMBERS];
 
 /* Prints that for the entries from one up to another, added up. */

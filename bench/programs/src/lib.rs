@@ -12,6 +12,7 @@ pub mod refusal {
     pub const TORN: u32 = 8;
     pub const KIND: u32 = 10;
     pub const BEYOND: u32 = 11;
+    pub const NUMBER: u32 = 18;
 }
 
 /// The numbers of a record's line after its refusal, or the refusal.

@@ -21,6 +21,15 @@ pub(crate) fn sevens() -> [u8; SEVENS]
     [7u8; SEVENS]
 }
 
+// The written record of a map of one byte more than a map has.
+pub(crate) const RECORD: usize = 2 * Bank::SIZE + 16;
+
+pub(crate) fn record() -> [u8; RECORD]
+    ensures { λ b. ⌜ 8208 ≡ length b ⌝ }
+{
+    [0u8; RECORD]
+}
+
 // The bytes count up from `start` by `step`, mod 256.
 pub(crate) fn count_up(bytes: &mut [u8], start: u32, step: u32) {
     let first = start as usize % 256;
@@ -39,6 +48,26 @@ pub(crate) fn fill(bytes: &mut [u8]) {
 pub(crate) fn put(bytes: &mut [u8], at: usize, byte: u8) {
     if at < bytes.len() {
         bytes[at] = byte;
+    }
+}
+
+// Byte i of a record in which the marked addresses of a map have numbers: by turns their high byte is 1 and their low one.
+fn number_byte(map: &[u8], i: usize) -> u8 {
+    let at = i / 2;
+    if map.len() <= at / 8 {
+        return 0;
+    }
+    if i % 2 == at % 2 {
+        map[at / 8] >> at % 8 & 1
+    } else {
+        0
+    }
+}
+
+// The record.
+pub(crate) fn number_marked(map: &[u8], written: &mut [u8]) {
+    for i in 0..written.len() {
+        written[i] = number_byte(map, i);
     }
 }
 

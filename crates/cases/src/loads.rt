@@ -1,4 +1,4 @@
-// Loads: `b` a block, `t` a tile, `c` a lookup table. The output is name, refusal, count, made-up count, the weights of bank and
+// Loads: `b` a block, `t` a tile, `c` a lookup table. The output is name, refusal, count, made-up count, number, the weights of bank and
 // written map after the load, and eight bytes of the bank.
 use crate::buffers;
 use crate::line;
@@ -12,7 +12,7 @@ use tmem::load::write_tlut_for_tile;
 
 // The call's own columns. A and B are a block's dxt and words, a tile's rows and words a row, a lookup table's count and rows. The
 // source has BYTES bytes, which count up from START by STEP. Bank and map have so many bytes, and are fresh unless LENT is 1. The
-// bank's bytes are shown from SHOWN on.
+// bank's bytes are shown from SHOWN on. LAST is the number of the load before.
 const IMAGE: usize = OWN;
 
 const A: usize = OWN + 1;
@@ -35,16 +35,19 @@ const LENT: usize = OWN + 9;
 
 const SHOWN: usize = OWN + 10;
 
+const LAST: usize = OWN + 11;
+
 fn load(case: &[u8], bank: &mut [u8], map: &mut [u8], src: &[u8]) -> LoadAnswer {
     let tile = line::tile(case);
     let image = line::number(case, IMAGE);
     let a = line::number(case, A);
     let b = line::number(case, B);
     let stride = line::number(case, STRIDE);
+    let last = line::number(case, LAST);
     match line::letter(case) {
-        b'b' => write_block_for_tile(bank, map, src, tile, image, a, b),
-        b't' => write_tile_for_tile(bank, map, src, tile, image, a, b, stride),
-        _ => write_tlut_for_tile(bank, map, src, tile, image, a, b, stride),
+        b'b' => write_block_for_tile(bank, map, src, tile, image, a, b, last),
+        b't' => write_tile_for_tile(bank, map, src, tile, image, a, b, stride, last),
+        _ => write_tlut_for_tile(bank, map, src, tile, image, a, b, stride, last),
     }
 }
 
@@ -84,12 +87,12 @@ fn load_from(case: &[u8], src: &[u8]) {
     if line::number(case, LENT) == 0 {
         let fresh = Bank::fresh();
         let mut bank = fresh.bytes;
-        let mut map = [0u8; 512];
+        let mut map = [0u8; Bank::WRITTEN_SIZE];
         load_into(case, &mut bank, &mut map, src);
         return;
     }
     let mut bank = buffers::sevens();
-    let mut map = [9u8; 513];
+    let mut map = [9u8; Bank::WRITTEN_SIZE + 1];
     load_into(case, &mut bank, &mut map, src);
 }
 

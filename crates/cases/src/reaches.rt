@@ -1,9 +1,12 @@
 // Reach, has-load and the lane check: `r` a reach, `m` one in a map of another length, `w` has-load where one byte is written, `l` the
-// lane check. The output is the name; of a map, the refusal, how many bits are set, and its weight; and whether there is a load.
+// lane check. The output is the name; of a map, the refusal, how many bits are set, and its weight; and whether there is a load, by a
+// written record that has sixteen bytes for each of the map.
+ghost use Prim.Native.Nat.{_≤_};
 use crate::buffers;
 use crate::line;
 use crate::line::OWN;
 use crate::show;
+use rdp::answer::YesAnswer;
 use rdp::tile::TileDescriptor;
 use reach::lane;
 
@@ -31,18 +34,37 @@ fn turned(refusal: u32, map: &mut [u8]) {
     show::number(weight);
 }
 
+// The bytes of a map's written record, as far as there is room.
+fn record_bytes(map: &[u8]) -> usize
+    ensures { λ r. ⌜ r ≤ 8208 ⌝ }
+{
+    if map.len() < LONG_MAP {
+        16 * map.len()
+    } else {
+        buffers::RECORD
+    }
+}
+
+// Has-load's answer where just the bytes that a map marks are written.
+fn has_load(tile: TileDescriptor, mode: u32, map: &[u8]) -> YesAnswer {
+    let mut written = buffers::record();
+    buffers::number_marked(map, &mut written);
+    let bytes = record_bytes(map);
+    reach::has_load::tile_has_load(tile, mode, &written[0..bytes])
+}
+
 // The reach of a tile in a map that was filled before. Then has-load's answer where just the marked bytes are written.
 fn reached(tile: TileDescriptor, mode: u32, map: &mut [u8]) {
     let refusal = reach::reach::reach(tile, mode, map);
-    let own = reach::has_load::tile_has_load(tile, mode, map);
+    let own = has_load(tile, mode, map);
     turned(refusal, map);
     show::number(own.refusal as u64);
     show::number(own.yes as u64);
 }
 
-// Whether the tile has a load where these bytes are written.
-fn loaded(tile: TileDescriptor, mode: u32, written: &[u8]) {
-    let answer = reach::has_load::tile_has_load(tile, mode, written);
+// Whether the tile has a load where the bytes that a map marks are written.
+fn loaded(tile: TileDescriptor, mode: u32, map: &[u8]) {
+    let answer = has_load(tile, mode, map);
     show::number(answer.yes as u64);
 }
 

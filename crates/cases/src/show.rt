@@ -31,6 +31,7 @@ pub(crate) fn load_answer(answer: LoadAnswer) {
     number(answer.refusal as u64);
     number(answer.count as u64);
     number(answer.made_up as u64);
+    number(answer.number as u64);
 }
 
 // One byte more of a weight.

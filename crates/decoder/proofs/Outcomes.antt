@@ -21,11 +21,11 @@ use Rattle.decoder.proofs.Counted.{reading-by, reads-count}
 firstAlone : Outcome → Outcome
 firstAlone o = record { refusal = o .refusal; numbers = o .numbers; buffers = take 1 (o .buffers) }
 
-settled-alone : (n : ℕ) (numbers a b c d : List ℕ)
-    → firstAlone (settle n numbers (a ∷ b ∷ []) (c ∷ d ∷ [])) ≡ settle n numbers (a ∷ []) (c ∷ [])
+settled-alone : (n : ℕ) (numbers instead a b c d : List ℕ)
+    → firstAlone (settle n numbers instead (a ∷ b ∷ []) (c ∷ d ∷ [])) ≡ settle n numbers instead (a ∷ []) (c ∷ [])
 unfolding settle firstAlone
-settled-alone zero numbers a b c d = refl
-settled-alone (suc n) numbers a b c d = refl
+settled-alone zero numbers instead a b c d = refl
+settled-alone (suc n) numbers instead a b c d = refl
 
 module _ (looked : Bool) (bank : List ℕ) (t : Tile) (mode lane : ℕ) (out seen : List ℕ) where
   pub refused : (observe : Bool) (n : ℕ) → n ≡ first (testsBy observe looked bank t mode lane out seen) → (n ≡ 0 → ⊥)
@@ -49,4 +49,4 @@ module _ (looked : Bool) (bank : List ℕ) (t : Tile) (mode lane : ℕ) (out see
   pub alone : (r : Answer) (out′ seen′ : List ℕ) → answered r (out′ ∷ seen′ ∷ []) ≡ outcomeBy false looked bank t mode lane out seen
       → answered r (out′ ∷ []) ≡ pictureCall (readingBy looked t mode lane) (texelsBy looked t) bank t mode lane out
   unfolding untoldCall pictureCall call firstAlone
-  alone r out′ seen′ e = ap firstAlone e ∙ settled-alone _ _ _ _ _ _
+  alone r out′ seen′ e = ap firstAlone e ∙ settled-alone _ _ _ _ _ _ _

@@ -11,14 +11,15 @@ use Rattle.rules.proofs.Refused.{determined}
 use Rattle.rdp.specs.declared.tile.TileDescriptor.{TileDescriptor}
 use Rattle.rdp.specs.declared.answer.Answer.{Answer}
 use Rattle.rdp.specs.declared.answer.LoadAnswer.{LoadAnswer}
+use Rattle.rdp.specs.declared.answer.ReplayAnswer.{ReplayAnswer}
 use Rattle.rdp.specs.declared.answer.SizeAnswer.{SizeAnswer}
 use Rattle.rdp.specs.declared.answer.SplitAnswer.{SplitAnswer}
 use Rattle.rdp.specs.declared.answer.YesAnswer.{YesAnswer}
 use Rattle.rdp.specs.declared.answer.SamplingAnswer.{SamplingAnswer}
 use Rattle.rdp.specs.declared.answer.TextAnswer.{TextAnswer}
 use Rattle.rdp.specs.declared.answer.RunAnswer.{RunAnswer}
-use Rattle.rdp.specs.View.{answered, loadAnswered, sizeAnswered, splitAnswered, yesAnswered, samplingAnswered}
-use Rattle.rdp.specs.View.{textAnswered, runAnswered, refusalAnswered, tileOf}
+use Rattle.rdp.specs.View.{answered, loadAnswered, replayAnswered, sizeAnswered, splitAnswered, yesAnswered}
+use Rattle.rdp.specs.View.{samplingAnswered, textAnswered, runAnswered, refusalAnswered, tileOf}
 
 -- number k of an outcome
 number : ℕ → Outcome → ℕ
@@ -35,8 +36,17 @@ pub load-determined : (o : Outcome) (r s : LoadAnswer) (l m : List (List ℕ)) �
     → (r ≡ s) × (l ≡ m)
 unfolding number
 load-determined o r s l m p q =
-    let e : loadAnswered r l ≡ loadAnswered s m = determined p q in
-    ((λ i. record { refusal = e i .refusal; count = number 0 (e i); «made_up» = number 1 (e i) }), ap (λ o. o .buffers) e)
+    let e : loadAnswered r l ≡ loadAnswered s m = determined p q in (
+      (λ i. record { refusal = e i .refusal; count = number 0 (e i); «made_up» = number 1 (e i); number = number 2 (e i) }),
+      ap (λ o. o .buffers) e,
+    )
+
+pub replay-determined : (o : Outcome) (r s : ReplayAnswer) (l m : List (List ℕ)) → replayAnswered r l ≡ o → replayAnswered s m ≡ o
+    → (r ≡ s) × (l ≡ m)
+unfolding number
+replay-determined o r s l m p q =
+    let e : replayAnswered r l ≡ replayAnswered s m = determined p q in
+    ((λ i. record { refusal = e i .refusal; count = number 0 (e i); number = number 1 (e i) }), ap (λ o. o .buffers) e)
 
 pub size-determined : (o : Outcome) (r s : SizeAnswer) (l m : List (List ℕ)) → sizeAnswered r l ≡ o → sizeAnswered s m ≡ o
     → (r ≡ s) × (l ≡ m)
@@ -75,8 +85,10 @@ pub run-determined : (o : Outcome) (r s : RunAnswer) (l m : List (List ℕ)) →
     → (r ≡ s) × (l ≡ m)
 unfolding number
 run-determined o r s l m p q =
-    let e : runAnswered r l ≡ runAnswered s m = determined p q in
-    ((λ i. record { refusal = e i .refusal; records = number 0 (e i); end = number 1 (e i) }), ap (λ o. o .buffers) e)
+    let e : runAnswered r l ≡ runAnswered s m = determined p q in (
+      (λ i. record { refusal = e i .refusal; records = number 0 (e i); end = number 1 (e i); number = number 2 (e i) }),
+      ap (λ o. o .buffers) e,
+    )
 
 pub refusal-determined : (o : Outcome) (r s : ℕ) (l m : List (List ℕ)) → refusalAnswered r l ≡ o → refusalAnswered s m ≡ o
     → (r ≡ s) × (l ≡ m)

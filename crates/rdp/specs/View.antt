@@ -6,6 +6,7 @@ use Rattle.rules.specs.Refusal.{Outcome}
 use Rattle.rdp.specs.declared.tile.TileDescriptor.{TileDescriptor}
 use Rattle.rdp.specs.declared.answer.Answer.{Answer}
 use Rattle.rdp.specs.declared.answer.LoadAnswer.{LoadAnswer}
+use Rattle.rdp.specs.declared.answer.ReplayAnswer.{ReplayAnswer}
 use Rattle.rdp.specs.declared.answer.SizeAnswer.{SizeAnswer}
 use Rattle.rdp.specs.declared.answer.SplitAnswer.{SplitAnswer}
 use Rattle.rdp.specs.declared.answer.YesAnswer.{YesAnswer}
@@ -35,7 +36,10 @@ abbrev pub answered : Answer → List (List ℕ) → Outcome
 answered r left = record { refusal = r .refusal; numbers = r .count ∷ []; buffers = left }
 
 abbrev pub loadAnswered : LoadAnswer → List (List ℕ) → Outcome
-loadAnswered r left = record { refusal = r .refusal; numbers = r .count ∷ r .«made_up» ∷ []; buffers = left }
+loadAnswered r left = record { refusal = r .refusal; numbers = r .count ∷ r .«made_up» ∷ r .number ∷ []; buffers = left }
+
+abbrev pub replayAnswered : ReplayAnswer → List (List ℕ) → Outcome
+replayAnswered r left = record { refusal = r .refusal; numbers = r .count ∷ r .number ∷ []; buffers = left }
 
 abbrev pub sizeAnswered : SizeAnswer → List (List ℕ) → Outcome
 sizeAnswered r left = record { refusal = r .refusal; numbers = r .width ∷ r .height ∷ []; buffers = left }
@@ -53,7 +57,7 @@ abbrev pub textAnswered : TextAnswer → List (List ℕ) → Outcome
 textAnswered r left = record { refusal = r .refusal; numbers = r .end ∷ []; buffers = left }
 
 abbrev pub runAnswered : RunAnswer → List (List ℕ) → Outcome
-runAnswered r left = record { refusal = r .refusal; numbers = r .records ∷ r .end ∷ []; buffers = left }
+runAnswered r left = record { refusal = r .refusal; numbers = r .records ∷ r .end ∷ r .number ∷ []; buffers = left }
 
 -- the answer of a call that has no number beside its refusal
 abbrev pub refusalAnswered : ℕ → List (List ℕ) → Outcome

@@ -1,19 +1,28 @@
-// What the public calls answer: a refusal, 0 for none, and the call's numbers, all 0 where it refused.
+// What the public calls answer: a refusal, 0 for none, and the call's numbers. Where it refused they are 0, but the number of the last
+// load, which is then the one passed.
 
-// A picture's count of reads, a key's count of kept bytes, a replayed record's count of stores or of kept bytes, a written file's
-// count of bytes.
+// A picture's count of reads, a key's count of kept bytes, a written file's count of bytes.
 #[repr(C)]
 pub struct Answer {
     pub refusal: u32,
     pub count: u32,
 }
 
-// A load's count of stores, and how many of their bytes came from past the source's end.
+// A load's count of stores, how many of their bytes came from past the source's end, and its number.
 #[repr(C)]
 pub struct LoadAnswer {
     pub refusal: u32,
     pub count: u32,
     pub made_up: u32,
+    pub number: u32,
+}
+
+// A replayed record's count of stores, or of kept bytes, and the number of the last load after it.
+#[repr(C)]
+pub struct ReplayAnswer {
+    pub refusal: u32,
+    pub count: u32,
+    pub number: u32,
 }
 
 // The width and height of a picture that was read from a file.
@@ -54,9 +63,10 @@ pub struct TextAnswer {
     pub end: usize,
 }
 
-// How many records of a run were replayed, and where their text ends.
+// How many records of a run were replayed, where their text ends, and the number of the last load after them.
 pub struct RunAnswer {
     pub refusal: u32,
     pub records: usize,
     pub end: usize,
+    pub number: u32,
 }

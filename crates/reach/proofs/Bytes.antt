@@ -1,19 +1,21 @@
 -- Laws of one byte of a map: what several bits do at once, or where one of them is.
 use mathlib.Core.Path.{_≡_, refl, ap, sym, _∙_}
-use mathlib.Core.Bool.{false, _||_}
+use mathlib.Core.Bool.{Bool, true, false, cond, _&&_, _||_, or-false}
 use mathlib.Core.List.{List, [], _∷_}
 use Prim.Native.Nat.{ℕ, zero, suc, _+_, _-_, _*_, _/_, _%_, _^_, _<_, _≤_}
 use native.Mathlib.Omega.{arith}
-use native.Mathlib.Decide.{ℕ-discrete}
+use native.Mathlib.Decide.{ℕ-discrete, decLt}
 use native.Mathlib.Nat.{one-mul}
-use lib.Bits.{bitAnd, bitOr, and-step, or-step, or-shr, and-shr, or-zero-r, and-zero-r, and-le-r, or-add-and, and-high}
-use lib.Dec.{eqb}
+use lib.Bits.{bitAnd, bitOr, and-step, or-step, or-shr, and-shr, or-zero-r, and-zero-r, and-le-l, and-le-r, and-comm, or-add-and}
+use lib.Dec.{eqb, ltb}
 use lib.ListN.{getD}
-use lib.Pow.{pow-pos, pow-add, shl-exact}
-use Rattle.rules.specs.Base.{isMarked, marked}
-use Rattle.rules.proofs.Bits.{more-bits}
-use Rattle.reach.specs.Words.{joined, meets}
-use Rattle.reach.proofs.Differ.{differ, are-same, are-apart}
+use lib.Pow.{shl-exact}
+use borrow.Author.Tests.{eq-eqb, ne-eqb, lt-ltb, le-ltb}
+use Rattle.rules.specs.Base.{one, marked, numberAt, isWritten}
+use Rattle.rules.proofs.Bits.{more-bits, ones}
+use Rattle.rules.proofs.Computed.{agree-below}
+use Rattle.reach.specs.Words.{ors, joined, markBit, wordMarks, wordBytes, meets}
+use Rattle.reach.proofs.Differ.{differ, are-apart}
 
 -- one bit, shifted inside a width, is a power of two
 pub bit-shifted : (k width : ℕ) → k < width → 1 * 2 ^ k % 2 ^ width ≡ 2 ^ k
@@ -61,12 +63,101 @@ joined-swap (x ∷ m) (suc w) (suc v) a b h = ap (λ l. x ∷ l) (joined-swap m 
 
 pub meets-none : (m : List ℕ) (w : ℕ) → meets m w 0 ≡ false
 unfolding meets
-meets-none m w = ap (λ n. differ n 0) (and-zero-r (getD m w 0))
+meets-none m w = ap (λ n. differ n 0) (and-zero-r (wordMarks m w))
 
 pub meets-more : (m : List ℕ) (w a b : ℕ) → meets m w (bitOr a b) ≡ (meets m w a || meets m w b)
 unfolding meets
 meets-more m w a b =
-    ap (λ n. differ n 0) (and-or (getD m w 0) a b) ∙ or-some (bitAnd (getD m w 0) a) (bitAnd (getD m w 0) b)
+    ap (λ n. differ n 0) (and-or (wordMarks m w) a b) ∙ or-some (bitAnd (wordMarks m w) a) (bitAnd (wordMarks m w) b)
+
+-- two of eight bits meet where they are the same, computed at each
+bits-meet : (j k : ℕ) → j < 8 → k < 8 → differ (bitAnd (2 ^ j) (2 ^ k)) 0 ≡ eqb k j
+bits-meet j k h l =
+    let first : (8 * j + k) / 8 ≡ j = omega arith in
+    let second : (8 * j + k) % 8 ≡ k = omega arith in
+    let same = agree-below 64 (λ n. one (differ (bitAnd (2 ^ (n / 8)) (2 ^ (n % 8))) 0)) (λ n. one (eqb (n % 8) (n / 8))) tt (8 * j + k)
+    (omega arith) in
+    ones _ _ (rw (first, second) at same)
+
+-- of the bits of those that hold, bit s is one where s holds
+some-bit : (b : ℕ → Bool) (s : ℕ) → s < 8 → (n : ℕ) → n ≤ 8
+    → differ (bitAnd (2 ^ s) (ors n (λ k. cond (b k) (2 ^ k) 0))) 0 ≡ (ltb s n && b s)
+unfolding ors
+some-bit b s h zero l = ap (λ n. differ n 0) (and-zero-r (2 ^ s)) ∙ sym (ap (λ c. c && b s) (le-ltb s 0 (omega arith)))
+some-bit b s h (suc n) l =
+    ap (λ n. differ n 0) (and-or (2 ^ s) (ors n (λ k. cond (b k) (2 ^ k) 0)) (cond (b n) (2 ^ n) 0))
+    ∙ or-some (bitAnd (2 ^ s) (ors n (λ k. cond (b k) (2 ^ k) 0))) (bitAnd (2 ^ s) (cond (b n) (2 ^ n) 0))
+    ∙ ap (λ c. c || differ (bitAnd (2 ^ s) (cond (b n) (2 ^ n) 0)) 0) (some-bit b s h n (omega arith))
+    ∙ go (ℕ-discrete s n)
+  where
+    -- the bit that is added
+    added : (c : Bool) → differ (bitAnd (2 ^ s) (cond c (2 ^ n) 0)) 0 ≡ (c && eqb n s)
+    added true = bits-meet s n h (omega arith)
+    added false = ap (λ n. differ n 0) (and-zero-r (2 ^ s))
+
+    go : Dec (s ≡ n) → ((ltb s n && b s) || differ (bitAnd (2 ^ s) (cond (b n) (2 ^ n) 0)) 0) ≡ (ltb s (suc n) && b s)
+    go (yes e) =
+        rw (added (b n), le-ltb s n (omega arith), lt-ltb s (suc n) (omega arith), eq-eqb n s (sym e), ← e) (here (b s))
+      where
+        here : (c : Bool) → (c && true) ≡ c
+        here true = refl
+        here false = refl
+    go (no e) = rw (added (b n), ne-eqb n s (λ q. e (sym q))) (there (b s) (b n) (decLt s n))
+      where
+        there : (c d : Bool) → Dec (s < n) → ((ltb s n && c) || (d && false)) ≡ (ltb s (suc n) && c)
+        there c true (yes q) = rw (lt-ltb s n q, lt-ltb s (suc n) (omega arith)) (or-false c)
+        there c false (yes q) = rw (lt-ltb s n q, lt-ltb s (suc n) (omega arith)) (or-false c)
+        there c true (no q) = rw (le-ltb s n (omega (arith, q)), le-ltb s (suc n) (omega (arith, q, e)))
+        there c false (no q) = rw (le-ltb s n (omega (arith, q)), le-ltb s (suc n) (omega (arith, q, e)))
+
+-- where all of some numbers are zero in one, each is
+ors-zero : (n : ℕ) (f : ℕ → ℕ) → ors n f ≡ 0 → (k : ℕ) → k < n → f k ≡ 0
+unfolding ors
+ors-zero zero f e k h = absurd (omega arith)
+ors-zero (suc n) f e k h = go (ℕ-discrete k n) (λ z l. ors-zero n f z k l)
+  where
+    go : Dec (k ≡ n) → (ors n f ≡ 0 → k < n → f k ≡ 0) → f k ≡ 0
+    go (yes q) ih = rw q (omega (arith, e, or-add-and (ors n f) (f n), and-le-l (ors n f) (f n)))
+    go (no q) ih = ih (omega (arith, e, or-add-and (ors n f) (f n), and-le-r (ors n f) (f n))) (omega (arith, q))
+
+-- and where each is, they are in one
+zero-ors : (n : ℕ) (f : ℕ → ℕ) → ((k : ℕ) → k < n → f k ≡ 0) → ors n f ≡ 0
+unfolding ors
+zero-ors zero f e = refl
+zero-ors (suc n) f e = rw (zero-ors n f (λ k h. e k (omega arith)), e n (omega arith))
+
+-- a word whose bytes are zero has no marks
+pub blank-word : (m : List ℕ) (w : ℕ) → wordBytes m w ≡ 0 → 0 ≡ wordMarks m w
+unfolding wordBytes wordMarks isWritten numberAt
+blank-word m w e = sym (zero-ors 8 (markBit m w) none)
+  where
+    byte : (k : ℕ) → k < 16 → getD m (16 * w + k) 0 ≡ 0
+    byte = ors-zero 16 (λ k. getD m (16 * w + k) 0) e
+
+    none : (k : ℕ) → k < 8 → markBit m w k ≡ 0
+    none k h =
+        let high : 2 * (8 * w + k) ≡ 16 * w + 2 * k = omega arith in
+        let low : 2 * (8 * w + k) + 1 ≡ 16 * w + (2 * k + 1) = omega arith in
+        rw (low, high, byte (2 * k) (omega arith), byte (2 * k + 1) (omega arith))
+
+-- an address is written where one of its two bytes is not zero
+module _ (m : List ℕ) (w k : ℕ) where
+  abbrev high : ℕ
+  high = getD m (2 * (8 * w + k)) 0
+
+  abbrev low : ℕ
+  low = getD m (2 * (8 * w + k) + 1) 0
+
+  pub bit-none : bitOr high low ≡ 0 → 0 ≡ markBit m w k
+  unfolding isWritten numberAt
+  bit-none e =
+      let none : 256 * high + low ≡ 0 = omega (arith, e, or-add-and high low, and-le-l high low, and-le-r high low) in
+      rw (eq-eqb _ _ none)
+
+  pub bit-some : (bitOr high low ≡ 0 → ⊥) → 2 ^ k ≡ markBit m w k
+  unfolding isWritten numberAt
+  bit-some e =
+      rw (ne-eqb (256 * high + low) 0 (λ z. e (omega (arith, z, or-add-and high low))))
 
 -- one address: a bit of its word
 module _ (m : List ℕ) (w s : ℕ) (h : s < 8) where
@@ -80,14 +171,10 @@ module _ (m : List ℕ) (w s : ℕ) (h : s < 8) where
   unfolding marked joined
   marked-word = rw (word-of, bit-of)
 
-  pub is-marked-word : isMarked m (8 * w + s) ≡ meets m w (2 ^ s)
-  unfolding isMarked meets
-  is-marked-word = rw (word-of, bit-of, bit-and) (go (getD m w 0 / 2 ^ s % 2) (omega arith))
-    where
-      bit-and : bitAnd (getD m w 0) (2 ^ s) ≡ (getD m w 0 / 2 ^ s % 2) * 2 ^ s
-      bit-and = let e : 2 ^ (1 + s) - 2 ^ s ≡ 2 ^ s = omega (arith, pow-add 2 1 s) in rw e at (and-high (getD m w 0) 1 s)
-
-      go : (d : ℕ) → d < 2 → eqb d 1 ≡ differ (d * 2 ^ s) 0
-      go zero h = sym (are-same (0 * 2 ^ s) 0 (omega arith))
-      go (suc zero) h = sym (are-apart (1 * 2 ^ s) 0 (λ z. omega (arith, pow-pos s)))
-      go (suc (suc d)) h = absurd (omega arith)
+  pub is-written-word : isWritten m (8 * w + s) ≡ meets m w (2 ^ s)
+  unfolding meets wordMarks
+  is-written-word =
+      sym
+      (ap (λ n. differ n 0) (and-comm (ors 8 (markBit m w)) (2 ^ s))
+      ∙ some-bit (λ k. isWritten m (8 * w + k)) s h 8 (omega arith)
+      ∙ ap (λ b. b && isWritten m (8 * w + s)) (lt-ltb s 8 h))

@@ -7,7 +7,7 @@ use native.Mathlib.Omega.{arith}
 use native.Mathlib.Nat.{mul-assoc, mul-comm, mod-eq-of-lt}
 use lib.Bits.{bitAnd, bitXor, xor-block, xor-zero-r, xor-lt}
 use lib.Dec.{ltb, leb}
-use Rattle.rules.specs.Base.{odd, tab, tabFrom, concat, any, marks, isMarked}
+use Rattle.rules.specs.Base.{odd, tab, tabFrom, concat, any, marks, isWritten}
 use Rattle.rules.specs.Tile.{Tile, bankSize, bankWords}
 use Rattle.rules.specs.Texdec.{tlut}
 use Rattle.rules.specs.Sampling.{isRgba32}
@@ -124,18 +124,18 @@ module _ (s : Span) (w : ℕ) (h : 8 * w < s .bytes) where
   unfolding bitsIn bit
   span-marks m = rw cut-more (word-marks (wordIn s w) (s .twice) (reachedAt s) bit m (cutAt s w) (here s w) in-word)
 
-  pub span-any : (m : List ℕ) → any (isMarked m) (concat (tab (cutAt s (w + 1)) (reachedAt s)))
-      ≡ (any (isMarked m) (concat (tab (cutAt s w) (reachedAt s))) || wordMeets (s .twice) m (wordIn s w) (bitsIn s w))
+  pub span-any : (m : List ℕ) → any (isWritten m) (concat (tab (cutAt s (w + 1)) (reachedAt s)))
+      ≡ (any (isWritten m) (concat (tab (cutAt s w) (reachedAt s))) || wordMeets (s .twice) m (wordIn s w) (bitsIn s w))
   unfolding bitsIn bit
   span-any m = rw cut-more (word-any (wordIn s w) m (s .twice) (reachedAt s) bit (cutAt s w) (here s w) in-word)
 
   -- what is found in the word is found in the span
-  pub span-found : (m : List ℕ) → wordMeets (s .twice) m (wordIn s w) (bitsIn s w) ≡ true → any (isMarked m) (reached s) ≡ true
+  pub span-found : (m : List ℕ) → wordMeets (s .twice) m (wordIn s w) (bitsIn s w) ≡ true → any (isWritten m) (reached s) ≡ true
   unfolding reached
   span-found m e =
       let all = placesIn (s .sparse) (s .bytes) in
       let n : cutAt s (w + 1) + (all - cutAt s (w + 1)) ≡ all = omega (arith, cut-le s (w + 1)) in
-      rw (← n) (found-longer (isMarked m) (reachedAt s) (cutAt s (w + 1)) _ (span-any m ∙ simp (e, or-true)))
+      rw (← n) (found-longer (isWritten m) (reachedAt s) (cutAt s (w + 1)) _ (span-any m ∙ simp (e, or-true)))
 
 -- the bits of the first n bytes of a word as they are made, and as the places have them
 abbrev made : Bool → Bool → ℕ → ℕ

@@ -4,17 +4,17 @@ use mathlib.Core.List.{List}
 use Prim.Native.Nat.{ℕ}
 use lib.ListN.{length}
 use borrow.Author.Tests.{eqb-true, not-false}
-use Rattle.rules.specs.Tile.{Tile, bankSize, mapSize, laneMapSize, InRange}
+use Rattle.rules.specs.Tile.{Tile, bankSize, laneMapSize, InRange}
 use Rattle.rules.specs.Refusal.{first}
 use Rattle.rules.specs.Calls.{mapTests, laneTests}
 use Rattle.rules.proofs.Refused.{Passed, numbered, passed}
 use Rattle.rules.proofs.Ranges.{in-range}
 
 -- of a map and a tile
-pub within : (map : List ℕ) (t : Tile) (mode : ℕ) → first (mapTests map t mode) ≡ 0 → (length map ≡ mapSize) × InRange t
+pub within : (size : ℕ) (map : List ℕ) (t : Tile) (mode : ℕ) → first (mapTests size map t mode) ≡ 0 → (length map ≡ size) × InRange t
 unfolding Passed
-within map t mode h =
-    let p = passed (mapTests map t mode) (numbered (mapTests map t mode) refl) h in
+within size map t mode h =
+    let p = passed (mapTests size map t mode) (numbered (mapTests size map t mode) refl) h in
     (eqb-true _ _ (not-false _ (p .0)), in-range t (p .1 .0))
 
 -- of a bank and a lane map

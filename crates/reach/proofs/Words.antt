@@ -6,13 +6,13 @@ use Prim.Native.Nat.{ℕ, zero, suc, _+_, _*_, _^_, _<_}
 use native.Mathlib.Omega.{arith}
 use native.Mathlib.Nat.{add-zero}
 use lib.Bits.{bitOr}
-use Rattle.rules.specs.Base.{tab, concat, any, marks, isMarked}
+use Rattle.rules.specs.Base.{tab, concat, any, marks, isWritten}
 use Rattle.rules.specs.Tile.{paletteBase}
 use Rattle.rules.proofs.Tables.{concat-more}
 use Rattle.rules.proofs.Maps.{marks-append}
 use Rattle.reach.specs.Words.{ors, joined, meets, lowWords, twin, wordJoined, wordMeets}
 use Rattle.reach.proofs.Joined.{one-more, any-more}
-use Rattle.reach.proofs.Bytes.{joined-none, joined-more, joined-swap, marked-word, meets-none, meets-more, is-marked-word}
+use Rattle.reach.proofs.Bytes.{joined-none, joined-more, joined-swap, marked-word, meets-none, meets-more, is-written-word}
 
 -- where place k does to a map what J does with the bits h k
 module _ (J : List ℕ → ℕ → List ℕ) (none : (l : List ℕ) → J l 0 ≡ l) (more : (l : List ℕ) (a b : ℕ) → J (J l a) b ≡ J l (bitOr a b))
@@ -89,16 +89,16 @@ module _ (w : ℕ) where
         across false false r s = refl
     found-more false a b = meets-more m w a b
 
-    found-twin : (twice : Bool) (s : ℕ) → s < 8 → any (isMarked m) (twin twice (8 * w + s)) ≡ wordMeets twice m w (2 ^ s)
+    found-twin : (twice : Bool) (s : ℕ) → s < 8 → any (isWritten m) (twin twice (8 * w + s)) ≡ wordMeets twice m w (2 ^ s)
     unfolding wordMeets twin any
     found-twin true s h =
-        rw (upper, is-marked-word m w s h, is-marked-word m (w + lowWords) s h, or-false (meets m (w + lowWords) (2 ^ s)))
-    found-twin false s h = rw (is-marked-word m w s h) (or-false _)
+        rw (upper, is-written-word m w s h, is-written-word m (w + lowWords) s h, or-false (meets m (w + lowWords) (2 ^ s)))
+    found-twin false s h = rw (is-written-word m w s h) (or-false _)
 
     pub word-any : (twice : Bool) (f : ℕ → List ℕ) (g : ℕ → ℕ) (a n : ℕ)
         → ((k : ℕ) → k < n → (g k < 8) × (f (a + k) ≡ twin twice (8 * w + g k)))
-        → any (isMarked m) (concat (tab (a + n) f))
-        ≡ (any (isMarked m) (concat (tab a f)) || wordMeets twice m w (ors n (λ k. 2 ^ g k)))
+        → any (isWritten m) (concat (tab (a + n) f))
+        ≡ (any (isWritten m) (concat (tab a f)) || wordMeets twice m w (ors n (λ k. 2 ^ g k)))
     word-any twice f g a n e =
-        part-any (isMarked m) (wordMeets twice m w) (found-none twice) (found-more twice) f (λ k. 2 ^ g k) a n
+        part-any (isWritten m) (wordMeets twice m w) (found-none twice) (found-more twice) f (λ k. 2 ^ g k) a n
         (λ k h. rw (e k h .1) (found-twin twice (g k) (e k h .0)))

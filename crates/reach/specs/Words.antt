@@ -1,10 +1,12 @@
--- Several bits of one byte of a map. It only names what the rules say address by address.
+-- Several bits of one byte of a map, or of the marks of a word of the written record. It only names what the rules say address by
+-- address.
 use mathlib.Core.Bool.{Bool, cond, not, _||_}
 use mathlib.Core.List.{List, [], _∷_}
-use Prim.Native.Nat.{ℕ, zero, suc, _+_, _/_}
+use Prim.Native.Nat.{ℕ, zero, suc, _+_, _*_, _/_, _^_}
 use lib.Bits.{bitAnd, bitOr}
 use lib.Dec.{eqb}
 use lib.ListN.{getD, set}
+use Rattle.rules.specs.Base.{isWritten}
 use Rattle.rules.specs.Tile.{paletteBase}
 
 -- f 0, f 1, .. f (n - 1) in one number
@@ -16,9 +18,21 @@ ors (suc n) f = bitOr (ors n f) (f n)
 unfoldable pub joined : List ℕ → ℕ → ℕ → List ℕ
 joined map w bits = set map w (bitOr (getD map w 0) bits)
 
--- one of the bits is set in byte w
+-- bit k of a word of the written record, where the address is written
+abbrev pub markBit : List ℕ → ℕ → ℕ → ℕ
+markBit map w k = cond (isWritten map (8 * w + k)) (2 ^ k) 0
+
+-- the marks of word w: a bit for each of its addresses that is written
+unfoldable pub wordMarks : List ℕ → ℕ → ℕ
+wordMarks map w = ors 8 (markBit map w)
+
+-- the sixteen bytes of its numbers in one
+unfoldable pub wordBytes : List ℕ → ℕ → ℕ
+wordBytes map w = ors 16 (λ k. getD map (16 * w + k) 0)
+
+-- one of the bits is set in them
 unfoldable pub meets : List ℕ → ℕ → ℕ → Bool
-meets map w bits = not (eqb (bitAnd (getD map w 0) bits) 0)
+meets map w bits = not (eqb (bitAnd (wordMarks map w) bits) 0)
 
 -- the words of the lower half, which ends where the palette starts
 abbrev pub lowWords : ℕ

@@ -1,11 +1,11 @@
 // Whether a tile reaches a byte that a load wrote: a search of its reach in order, which stops at the first meeting.
 ghost use mathlib.Core.Path.{_≡_};
 ghost use lib.ListN.{length};
-ghost use Rattle.rules.specs.Base.{any, isMarked};
+ghost use Rattle.rules.specs.Base.{any, isWritten};
 ghost use Rattle.rules.specs.Calls.{hasLoadCall};
 ghost use Rattle.rules.specs.Reach.{reachPlain, hasLoad};
 ghost use Rattle.rdp.specs.View.{tileOf, yesAnswered};
-ghost use Rattle.rules.specs.Tile.{mapSize, InRange};
+ghost use Rattle.rules.specs.Tile.{writtenSize, InRange};
 ghost use Rattle.reach.specs.Span.{Bounds, reached};
 use crate::extent;
 use crate::refused;
@@ -14,12 +14,13 @@ use crate::word;
 use rdp::answer::YesAnswer;
 use rdp::tile::TileDescriptor;
 use tile_sampling::sampling::TileSampling;
+use tmem::bank::Bank;
 
-// An address of a span is marked.
+// An address of a span is written.
 fn span_meets(written: &[u8], span: Span) -> bool
-    requires { ⌜ length (now written) ≡ mapSize ⌝ }
+    requires { ⌜ length (now written) ≡ writtenSize ⌝ }
     requires { ⌜ Bounds span ⌝ }
-    ensures { λ r. ⌜ r ≡ any (isMarked (now (written .entry))) (reached span) ⌝ }
+    ensures { λ r. ⌜ r ≡ any (isWritten (now (written .entry))) (reached span) ⌝ }
 {
     let words = span.words();
     for w in 0..words {
@@ -32,9 +33,9 @@ fn span_meets(written: &[u8], span: Span) -> bool
 
 // One of a row, up to the period of rows.
 fn rows_meet(written: &[u8], tile: TileDescriptor, tlut: u32) -> bool
-    requires { ⌜ length (now written) ≡ mapSize ⌝ }
+    requires { ⌜ length (now written) ≡ writtenSize ⌝ }
     requires { ⌜ InRange (tileOf tile) ⌝ }
-    ensures { λ r. ⌜ r ≡ any (isMarked (now (written .entry))) (reachPlain (tileOf tile) tlut) ⌝ }
+    ensures { λ r. ⌜ r ≡ any (isWritten (now (written .entry))) (reachPlain (tileOf tile) tlut) ⌝ }
 {
     let bytes = extent::row_bytes(tile);
     let rows = extent::reach_rows(tile);
@@ -48,7 +49,7 @@ fn rows_meet(written: &[u8], tile: TileDescriptor, tlut: u32) -> bool
 
 // The reach and the map meet.
 fn reach_meets(written: &[u8], tile: TileDescriptor, tlut: u32) -> bool
-    requires { ⌜ length (now written) ≡ mapSize ⌝ }
+    requires { ⌜ length (now written) ≡ writtenSize ⌝ }
     requires { ⌜ InRange (tileOf tile) ⌝ }
     ensures { λ r. ⌜ r ≡ hasLoad (tileOf tile) tlut (now (written .entry)) ⌝ }
 {
@@ -63,7 +64,7 @@ fn reach_meets(written: &[u8], tile: TileDescriptor, tlut: u32) -> bool
 pub fn tile_has_load(tile: TileDescriptor, tlut: u32, written: &[u8]) -> YesAnswer
     ensures { λ r. ⌜ yesAnswered r ≡ hasLoadCall (tileOf tile) tlut (now (written .entry)) ⌝ }
 {
-    let no = refused::map_refusal(written, tile, tlut);
+    let no = refused::map_refusal(written, Bank::WRITTEN_SIZE, tile, tlut);
     if no != 0 {
         return YesAnswer {
             refusal: no,

@@ -15,6 +15,7 @@ use crate::span::Span;
 use crate::word;
 use rdp::tile::TileDescriptor;
 use tile_sampling::sampling::TileSampling;
+use tmem::bank::Bank;
 
 // The addresses of a span are marked, word by word.
 fn mark_span(map: &mut [u8], span: Span)
@@ -60,7 +61,7 @@ fn mark_reach(map: &mut [u8], tile: TileDescriptor, tlut: u32)
 pub fn reach(tile: TileDescriptor, tlut: u32, map: &mut [u8]) -> u32
     ensures { λ r. ⌜ refusalAnswered r (now (map .exit) ∷ []) ≡ reachCall (tileOf tile) tlut (now (map .entry)) ⌝ }
 {
-    let no = refused::map_refusal(map, tile, tlut);
+    let no = refused::map_refusal(map, Bank::SIZE / 8, tile, tlut);
     if no != 0 {
         return no;
     }

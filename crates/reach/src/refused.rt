@@ -6,13 +6,12 @@ ghost use Rattle.rdp.specs.View.{tileOf};
 use rdp::refusal;
 use rdp::tile;
 use rdp::tile::TileDescriptor;
-use tmem::bank::Bank;
 
-// Of a map, a tile and a mode: 1, 2, 3.
-pub(crate) fn map_refusal(map: &[u8], tile: TileDescriptor, tlut: u32) -> u32
-    ensures { λ r. ⌜ r ≡ first (mapTests (now (map .entry)) (tileOf tile) tlut) ⌝ }
+// Of a map that has to have `size` bytes, a tile and a mode: 1, 2, 3.
+pub(crate) fn map_refusal(map: &[u8], size: usize, tile: TileDescriptor, tlut: u32) -> u32
+    ensures { λ r. ⌜ r ≡ first (mapTests size (now (map .entry)) (tileOf tile) tlut) ⌝ }
 {
-    if map.len() != Bank::SIZE / 8 {
+    if map.len() != size {
         return refusal::LENGTH;
     }
     tile::tile_and_mode_refusal(tile, tlut)

@@ -1,10 +1,10 @@
-// Several bits of one word at once: set, or looked for.
+// Several bits of one word at once: set in a map, or looked for in the written record.
 ghost use mathlib.Core.Bool.{true};
 ghost use mathlib.Core.Path.{_≡_};
 ghost use Prim.Native.Nat.{_<_};
 ghost use lib.ListN.{length};
-ghost use Rattle.rules.specs.Tile.{bankWords, mapSize};
-ghost use Rattle.reach.specs.Words.{joined, meets, lowWords, wordJoined, wordMeets};
+ghost use Rattle.rules.specs.Tile.{bankWords, mapSize, writtenSize};
+ghost use Rattle.reach.specs.Words.{joined, markBit, wordMarks, wordBytes, meets, lowWords, wordJoined, wordMeets};
 use tmem::bank::Bank;
 
 // The bits are set in byte `at`.
@@ -27,22 +27,76 @@ pub(crate) fn mark_word(map: &mut [u8], twice: bool, at: usize, bits: u8)
     }
 }
 
-// One of the bits is set in byte `at`.
-fn meets(map: &[u8], at: usize, bits: u8) -> bool
-    requires { ⌜ at < length (now map) ⌝ }
-    ensures { λ r. ⌜ r ≡ meets (now (map .entry)) at bits ⌝ }
+// The bytes of a word's numbers, or-ed together.
+fn word_bytes(written: &[u8], at: usize) -> u8
+    requires { ⌜ length (now written) ≡ writtenSize ⌝ }
+    requires { ⌜ at < bankWords ⌝ }
+    ensures { λ r. ⌜ r ≡ wordBytes (now (written .entry)) at ⌝ }
 {
-    map[at] & bits != 0
+    let mut bytes = 0u8;
+    for k in 0..16 {
+        bytes = bytes | written[16 * at + k];
+    }
+    bytes
 }
 
-// Or in the byte that it stands for.
-pub(crate) fn word_meets(map: &[u8], twice: bool, at: usize, bits: u8) -> bool
-    requires { ⌜ length (now map) ≡ mapSize ⌝ }
+// The bit of an address in the marks of its word, where it is written.
+fn mark_bit(written: &[u8], at: usize, k: usize) -> u8
+    requires { ⌜ length (now written) ≡ writtenSize ⌝ }
+    requires { ⌜ (at < bankWords) × (k < 8) ⌝ }
+    ensures { λ r. ⌜ r ≡ markBit (now (written .entry)) at k ⌝ }
+{
+    let i = 2 * (8 * at + k);
+    if written[i] | written[i + 1] == 0 {
+        0
+    } else {
+        1u8 << k
+    }
+}
+
+// The marks of a word, address by address.
+fn each_mark(written: &[u8], at: usize) -> u8
+    requires { ⌜ length (now written) ≡ writtenSize ⌝ }
+    requires { ⌜ at < bankWords ⌝ }
+    ensures { λ r. ⌜ r ≡ wordMarks (now (written .entry)) at ⌝ }
+{
+    let mut bits = 0u8;
+    for k in 0..8 {
+        bits = bits | mark_bit(written, at, k);
+    }
+    bits
+}
+
+// The marks of a word. Most words that are looked at have none, which one test of their bytes says.
+fn word_marks(written: &[u8], at: usize) -> u8
+    requires { ⌜ length (now written) ≡ writtenSize ⌝ }
+    requires { ⌜ at < bankWords ⌝ }
+    ensures { λ r. ⌜ r ≡ wordMarks (now (written .entry)) at ⌝ }
+{
+    if word_bytes(written, at) == 0 {
+        0
+    } else {
+        each_mark(written, at)
+    }
+}
+
+// One of the bits is set in the marks of word `at`.
+fn meets(written: &[u8], at: usize, bits: u8) -> bool
+    requires { ⌜ length (now written) ≡ writtenSize ⌝ }
+    requires { ⌜ at < bankWords ⌝ }
+    ensures { λ r. ⌜ r ≡ meets (now (written .entry)) at bits ⌝ }
+{
+    word_marks(written, at) & bits != 0
+}
+
+// Or in those of the word that it stands for.
+pub(crate) fn word_meets(written: &[u8], twice: bool, at: usize, bits: u8) -> bool
+    requires { ⌜ length (now written) ≡ writtenSize ⌝ }
     requires { ⌜ (at < bankWords) × (twice ≡ true → at < lowWords) ⌝ }
-    ensures { λ r. ⌜ r ≡ wordMeets twice (now (map .entry)) at bits ⌝ }
+    ensures { λ r. ⌜ r ≡ wordMeets twice (now (written .entry)) at bits ⌝ }
 {
     if twice {
-        return meets(map, at, bits) | meets(map, at + Bank::PALETTE_BASE / 8, bits);
+        return meets(written, at, bits) | meets(written, at + Bank::PALETTE_BASE / 8, bits);
     }
-    meets(map, at, bits)
+    meets(written, at, bits)
 }

@@ -1,9 +1,10 @@
 // Replays a capture's loads: `replay COMPANION < RECORDS`. It reads records of 48 bytes from standard input to its end and writes a
-// line for each: its refusal, and the count of its stores, or for a key of its kept bytes. A torn tail gives `8 0`, and empty input
-// nothing. A load takes its bytes from the companion file, of which a piece is held at a time. Where that file cannot be used, a
-// sentence on standard error says so, and no line is written. Where a read of it falls short of its length, a sentence says so after
-// the lines of the records before, and that is the end. A read of the records that fails ends the input. A Rattle program cannot set
-// its exit status, so what went wrong shows in the lines and on standard error alone.
+// line for each: its refusal, and the count of its stores, or for a key of its kept bytes. After the 65,535th load each further one
+// gives `18 0`, and keys go on. A torn tail gives `8 0`, and empty input nothing. A load takes its bytes from the companion file, of
+// which a piece is held at a time. Where that file cannot be used, a sentence on standard error says so, and no line is written. Where
+// a read of it falls short of its length, a sentence says so after the lines of the records before, and that is the end. A read of the
+// records that fails ends the input. A Rattle program cannot set its exit status, so what went wrong shows in the lines and on standard
+// error alone.
 ghost use mathlib.Core.Path.{_≡_};
 ghost use Prim.Native.Nat.{_+_, _≤_};
 ghost use lib.ListN.{length};
@@ -32,19 +33,21 @@ const PIECE_ROOM: usize = RECORDS * LINE_ROOM;
 const AHEAD: usize = 4096;
 
 // How far a piece of the records is done, which bytes of the companion file are held, where the text that was not yet written out
-// ends, and whether to go on.
+// ends, whether to go on, and the number of the last load.
 struct Progress {
     at: usize,
     start: u64,
     size: usize,
     end: usize,
     more: bool,
+    last: u32,
 }
 
-// How many bytes of the records a turn did, and where the text ends after it.
+// How many bytes of the records a turn did, where the text ends after it, and the number of the last load.
 struct Turn {
     done: usize,
     end: usize,
+    last: u32,
 }
 
 // The bytes of the first records of an input, of which the last may be torn.
@@ -68,15 +71,26 @@ fn replay_held(
     held: &[u8],
     text: &mut [u8],
     end: usize,
+    last: u32,
 ) -> Turn
     requires { ⌜ end ≤ length (now text) ⌝ }
     ensures { λ r. ⌜ r .done ≤ length (now (rest .entry)) ⌝ }
     ensures { λ r. ⌜ r .end ≤ length (now (text .entry)) ⌝ }
 {
-    let run = replay_run(bank, written, rest, file_end, start, held, &mut text[end..]);
+    let run = replay_run(
+        bank,
+        written,
+        rest,
+        file_end,
+        start,
+        held,
+        &mut text[end..],
+        last,
+    );
     Turn {
         done: bytes_of(run.records, rest),
         end: end + run.end,
+        last: run.number,
     }
 }
 
@@ -106,6 +120,7 @@ fn write_full(text: &[u8], step: Progress) -> Progress
             size: step.size,
             end: 0,
             more: step.more & is_written,
+            last: step.last,
         };
     }
     step
@@ -175,6 +190,7 @@ fn hold_next(fd: i32, file_end: u64, records: &[u8], held: &mut [u8], step: Prog
         size,
         end: step.end,
         more: step.more & is_read,
+        last: step.last,
     }
 }
 
@@ -207,6 +223,7 @@ fn replay_turn(
         &held[..size],
         text,
         step.end,
+        step.last,
     );
     let done = Progress {
         at: at + turn.done,
@@ -214,6 +231,7 @@ fn replay_turn(
         size,
         end: turn.end,
         more: step.more,
+        last: turn.last,
     };
     hold_next(fd, file_end, records, held, write_full(text, done))
 }
@@ -261,6 +279,7 @@ fn replay_all(
     let mut size = 0;
     let mut end = 0;
     let mut more = true;
+    let mut last = 0u32;
     let mut turns = u64::MAX;
     while more & (0 < turns) {
         let got = io::read_full(STDIN_FILENO, records);
@@ -270,6 +289,7 @@ fn replay_all(
             size,
             end,
             more,
+            last,
         };
         let done = replay_piece(
             fd,
@@ -285,6 +305,7 @@ fn replay_all(
         size = done.size;
         end = done.end;
         more = done.more & (got == records.len());
+        last = done.last;
         turns -= 1;
     }
     write_out(text, end);
@@ -323,7 +344,7 @@ fn replay_with(fd: i32, path: &[u8]) {
     }
     let fresh = Bank::fresh();
     let mut bank = fresh.bytes;
-    let mut written = [0u8; 512];
+    let mut written = [0u8; Bank::WRITTEN_SIZE];
     let mut records = piece_buffer();
     let mut text = io::large_buffer();
     replay_all(

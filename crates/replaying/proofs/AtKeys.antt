@@ -17,7 +17,7 @@ use Rattle.rules.specs.Replay.{laneIn, tileIn, modeIn, asksKey, recordTests, Ca
 use Rattle.rules.proofs.Allowed.{Allowed, allowed, never-nine}
 use Rattle.rules.proofs.Maps.{Below}
 use Rattle.rules.proofs.Replay.{Sound, fresh-sound, stands, refusal-of, key-keeps as nothing-changes, key-line}
-use Rattle.rules.proofs.ReplayTests.{key-passes}
+use Rattle.rules.proofs.ReplayTests.{step-passed, key-passes}
 use Rattle.key.proofs.Demand3.{key-keeps, count-keeps, key-same-picture, key-own-key, equal-keys, Changed, flip-changes}
 
 module _ (file : List ℕ) (bytes : Bytes file) (before : List (List ℕ)) (r : List ℕ) (asks : asksKey r ≡ true) where
@@ -44,7 +44,7 @@ module _ (file : List ℕ) (bytes : Bytes file) (before : List (List ℕ)) (r : 
   module _ (done : inFile file r here .refusal ≡ 0) where
     none : first (recordTests (length file) r) ≡ 0
     unfolding inFile
-    none = sym (refusal-of (length file) _ r here) ∙ done
+    none = step-passed (length file) r (here .last) (sym (refusal-of (length file) _ r here) ∙ done) .0
 
     is-allowed : Allowed tile mode lane
     is-allowed = allowed tile mode lane (never-nine tile mode lane ∙ key-passes (length file) r none asks)

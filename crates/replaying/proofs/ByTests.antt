@@ -1,16 +1,16 @@
 -- The first refusal of a record, and of the call for one record, by the tests that led there.
 use mathlib.Core.Path.{_≡_, refl, sym, _∙_}
 use mathlib.Core.Bool.{Bool, true, false, not, _&&_}
-use mathlib.Core.List.{List, [], _∷_}
+use mathlib.Core.List.{List, [], _∷_, _++_}
 use Prim.Native.Nat.{ℕ, _+_, _<_, _≤_}
 use lib.Dec.{ltb}
 use lib.ListN.{length}
 use borrow.Author.Tests.{lt-ltb, le-ltb}
-use Rattle.rules.specs.Refusal.{first}
+use Rattle.rules.specs.Refusal.{Test, first}
 use Rattle.rules.specs.Calls.{numberTests}
 use Rattle.rules.specs.Replay.{replaySize, kindIn, tileIn, imageIn, offsetIn, sizeIn, asksKey, outsideIn, beyond, recordTests}
-use Rattle.rules.specs.Replay.{shortPart, ownTests}
-use Rattle.rules.proofs.Refused.{numbered, first-before, first-after}
+use Rattle.rules.specs.Replay.{spent, shortPart}
+use Rattle.rules.proofs.Refused.{numbered, first-next, first-before, first-after}
 use Rattle.rules.proofs.ReplayTests.{keyTestsIn, loadTestsIn, tests-numbered}
 
 module _ (end : ℕ) (r : List ℕ) where
@@ -55,18 +55,30 @@ pub short-is : (part r : List ℕ) (key : Bool) (size : ℕ) → key ≡ asksKey
     → (not key && ltb (length part) size) ≡ shortPart part r .fails
 short-is part r key size k e = rw (k, e)
 
--- the call's tests after those of bank and map
-module _ (end : ℕ) (r part : List ℕ) (n : ℕ) (is : n ≡ first (recordTests end r)) where
-  pub by-record : (n ≡ 0 → ⊥) → n ≡ first (ownTests end r part)
-  by-record = first-before (recordTests end r) (shortPart part r ∷ []) n (tests-numbered end r) is
+-- the record's own tests before others
+module _ (end : ℕ) (r : List ℕ) (rest : List Test) (n : ℕ) (is : n ≡ first (recordTests end r)) where
+  pub by-record : (n ≡ 0 → ⊥) → n ≡ first (recordTests end r ++ rest)
+  by-record = first-before (recordTests end r) rest n (tests-numbered end r) is
 
-  own : n ≡ 0 → first (ownTests end r part) ≡ first (shortPart part r ∷ [])
-  own z = first-after (recordTests end r) (shortPart part r ∷ []) (tests-numbered end r) (sym is ∙ z)
+  pub past-record : (k : ℕ) → n ≡ 0 → k ≡ first rest → k ≡ first (recordTests end r ++ rest)
+  past-record k z e = e ∙ sym (first-after (recordTests end r) rest (tests-numbered end r) (sym is ∙ z))
 
-  pub by-part : n ≡ 0 → shortPart part r .fails ≡ true → 11 ≡ first (ownTests end r part)
+-- the number's test, which is the last
+module _ (last : ℕ) (r : List ℕ) where
+  pub by-number : spent last r .fails ≡ true → 18 ≡ first (spent last r ∷ [])
   unfolding first
-  by-part z h = sym (own z ∙ rw h)
+  by-number h = rw h
 
-  pub by-nothing : n ≡ 0 → shortPart part r .fails ≡ false → 0 ≡ first (ownTests end r part)
+  pub by-nothing : spent last r .fails ≡ false → 0 ≡ first (spent last r ∷ [])
   unfolding first
-  by-nothing z h = sym (own z ∙ rw h)
+  by-nothing h = rw h
+
+  -- and the part's before it
+  module _ (part : List ℕ) where
+    pub by-part : shortPart part r .fails ≡ true → 11 ≡ first (shortPart part r ∷ spent last r ∷ [])
+    unfolding first
+    by-part h = rw h
+
+    pub past-part : (k : ℕ) → shortPart part r .fails ≡ false → k ≡ first (spent last r ∷ [])
+        → k ≡ first (shortPart part r ∷ spent last r ∷ [])
+    past-part k h e = e ∙ sym (first-next (shortPart part r) (spent last r ∷ []) h)

@@ -7,12 +7,12 @@ use lib.ListN.{length, take, length-append}
 use lib.Seq.{length-take-le}
 use borrow.Author.Tests.{lt-ltb, le-ltb, ltb-false}
 use Rattle.rules.specs.Base.{recordOf, over}
-use Rattle.rules.specs.Tile.{bankSize, mapSize}
+use Rattle.rules.specs.Tile.{bankSize, writtenSize}
 use Rattle.rules.specs.Lister.{lineText, numberText}
 use Rattle.rules.specs.Refusal.{Outcome, first}
 use Rattle.rules.specs.Replay.{replaySize, replayRoom, Carried, carried, Piece, inPiece, lineIn, onward, replayed, lines, texts}
 use Rattle.rules.specs.Replay.{firstRecords, recordCount, recordsIn, ready, shortText, runTests, runCall}
-use Rattle.rules.proofs.Refused.{first-zero, done-is}
+use Rattle.rules.proofs.Refused.{first-zero, done-or-is}
 use Rattle.rules.proofs.LentTests.{both-lent, lent-passed}
 use Rattle.rules.proofs.Tables.{tab-none, tab-more}
 use Rattle.rules.proofs.Replay.{replayed-append, lines-append, texts-append}
@@ -72,7 +72,7 @@ module _ (p : Piece) (input : List ℕ) (m : Carried) (out : List ℕ) where
 
 -- The run's call, by its tests.
 module _ (bank map input out : List ℕ) where
-  module _ (b : length bank ≡ bankSize) (m : length map ≡ mapSize) where
+  module _ (b : length bank ≡ bankSize) (m : length map ≡ writtenSize) where
     lent : first (runTests bank map input out) ≡ first (shortText input out ∷ [])
     lent = both-lent bank map (shortText input out ∷ []) b m
 
@@ -86,30 +86,30 @@ module _ (bank map input out : List ℕ) where
 
   module _ (passed : first (runTests bank map input out) ≡ 0) where
     -- a run that is not refused was lent a whole bank and a whole map, and has room for its lines
-    pub run-lent : ((length bank ≡ bankSize) × (length map ≡ mapSize)) × (replayRoom * recordCount input ≤ length out)
+    pub run-lent : ((length bank ≡ bankSize) × (length map ≡ writtenSize)) × (replayRoom * recordCount input ≤ length out)
     run-lent =
         let p = lent-passed bank map (shortText input out ∷ []) passed in
         (p .0, ltb-false _ _ (first-zero (shortText input out) [] (λ e. omega arith) (p .1) .0))
 
     -- and answers and leaves what its call says
-    pub run-done : (p : Piece) (n end : ℕ) (bank′ map′ out′ : List ℕ) → n ≡ ready p (recordsIn input)
-        → Run p (firstRecords input n) (carried bank map) out (carried bank′ map′) out′ end
-        → record { refusal = 0; numbers = n ∷ end ∷ []; buffers = bank′ ∷ map′ ∷ out′ ∷ [] } ≡ runCall bank map input p out
+    pub run-done : (p : Piece) (n end last number : ℕ) (bank′ map′ out′ : List ℕ) → n ≡ ready p (recordsIn input)
+        → Run p (firstRecords input n) (carried bank map last) out (carried bank′ map′ number) out′ end
+        → record { refusal = 0; numbers = n ∷ end ∷ number ∷ []; buffers = bank′ ∷ map′ ∷ out′ ∷ [] } ≡ runCall bank map input p out last
     unfolding runCall
-    run-done p n end bank′ map′ out′ e r =
+    run-done p n end last number bank′ map′ out′ e r =
         let same = r .carried-is in
         (λ i. record {
           refusal = 0;
-          numbers = n ∷ r .ends i ∷ [];
+          numbers = n ∷ r .ends i ∷ same i .last ∷ [];
           buffers = same i .bank ∷ same i .map ∷ r .text-is i ∷ [];
         })
         ∙ (λ i. Of (e i))
-        ∙ done-is (runTests bank map input out) _ _ _ passed
+        ∙ done-or-is (runTests bank map input out) _ _ _ _ passed
       where
         -- what n records answer and leave
         Of : ℕ → Outcome
         Of n =
             let l = firstRecords input n in
-            let text = texts (lines (inPiece p) l (carried bank map)) in
-            let m = replayed (inPiece p) l (carried bank map) in
-            record { refusal = 0; numbers = n ∷ length text ∷ []; buffers = m .bank ∷ m .map ∷ over text out ∷ [] }
+            let text = texts (lines (inPiece p) l (carried bank map last)) in
+            let m = replayed (inPiece p) l (carried bank map last) in
+            record { refusal = 0; numbers = n ∷ length text ∷ m .last ∷ []; buffers = m .bank ∷ m .map ∷ over text out ∷ [] }

@@ -1,4 +1,4 @@
-// The replay of a capture's loads: one record over a lent bank and written map, and a run of records that writes its lines.
+// The replay of a capture's loads: one record over a lent bank, written map and last number, and a run of records that writes its lines.
 mod fields;
 mod line;
 mod piece;

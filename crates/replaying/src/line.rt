@@ -7,10 +7,10 @@ ghost use Rattle.rules.specs.Base.{over};
 ghost use Rattle.rules.specs.Lister.{lineText};
 ghost use Rattle.rules.specs.Replay.{replayRoom};
 use decimal::number::put_number;
-use rdp::answer::Answer;
+use rdp::answer::ReplayAnswer;
 
 // A line's text from `at` on. The new end is answered.
-pub(crate) fn put_line(answer: Answer, out: &mut [u8], at: usize) -> usize
+pub(crate) fn put_line(answer: ReplayAnswer, out: &mut [u8], at: usize) -> usize
     requires { ⌜ at + replayRoom ≤ length (now out) ⌝ }
     ensures { λ r. ⌜ r ≡ at + length (lineText (answer .refusal ∷ answer .count ∷ [])) ⌝ }
     ensures { λ r. ⌜ r ≤ at + replayRoom ⌝ }

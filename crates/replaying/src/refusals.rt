@@ -5,7 +5,7 @@ ghost use Prim.Native.Nat.{_≤_};
 ghost use lib.ListN.{length};
 ghost use Rattle.rules.specs.Calls.{numberTests, pairTests, unknownPair};
 ghost use Rattle.rules.specs.Refusal.{first};
-ghost use Rattle.rules.specs.Replay.{replaySize, laneIn, tileIn, modeIn, imageIn, sizeIn, outsideIn, beyond, recordTests};
+ghost use Rattle.rules.specs.Replay.{replaySize, laneIn, tileIn, modeIn, imageIn, sizeIn, outsideIn, beyond, recordTests, spent};
 use crate::fields::asked_in;
 use crate::fields::asks_key;
 use crate::fields::image_in;
@@ -18,6 +18,7 @@ use crate::fields::tile_in;
 use crate::run::RECORD;
 use rdp::refusal;
 use texdec::pair::pair_refusal;
+use tmem::load::is_spent;
 use tmem::load::number_refusal;
 
 // Of a key: 2, 3, 5.
@@ -67,4 +68,11 @@ pub(crate) fn record_refusal(bytes: &[u8], end: u64) -> u32
     } else {
         load_refusal(bytes, end)
     }
+}
+
+// It is a load, and no number is left for it.
+pub(crate) fn takes_none(bytes: &[u8], last: u32) -> bool
+    ensures { λ r. ⌜ r ≡ spent last (now (bytes .entry)) .fails ⌝ }
+{
+    !asks_key(bytes) & is_spent(last)
 }

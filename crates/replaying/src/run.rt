@@ -5,11 +5,11 @@ ghost use mathlib.Core.List.{[], _∷_};
 ghost use Prim.Native.Nat.{_+_, _*_, _<_, _≤_};
 ghost use lib.ListN.{length};
 ghost use Rattle.rules.specs.Base.{recordOf};
-ghost use Rattle.rules.specs.Tile.{bankSize, mapSize};
+ghost use Rattle.rules.specs.Tile.{bankSize, writtenSize};
 ghost use Rattle.rules.specs.Refusal.{first};
 ghost use Rattle.rules.specs.Replay.{replaySize, replayRoom, carried, piece, atHand, inPiece, ready};
 ghost use Rattle.rules.specs.Replay.{recordCount, recordsIn, firstRecords, runTests, runCall};
-ghost use Rattle.rdp.specs.View.{answered, runAnswered};
+ghost use Rattle.rdp.specs.View.{replayAnswered, runAnswered};
 ghost use Rattle.replaying.specs.Run.{Replayed, Run};
 use crate::fields::offset_in;
 use crate::fields::size_in;
@@ -20,7 +20,7 @@ use crate::piece::record_end;
 use crate::piece::takes_part;
 use crate::step::replay_step;
 use decimal::number::NUMBER_ROOM;
-use rdp::answer::Answer;
+use rdp::answer::ReplayAnswer;
 use rdp::answer::RunAnswer;
 use rdp::refusal;
 use tmem::bank::Bank;
@@ -44,21 +44,29 @@ fn replay_at_hand(
     end: u64,
     start: u64,
     held: &[u8],
-) -> Answer
-    requires { ⌜ (length (now bank) ≡ bankSize) × (length (now written) ≡ mapSize) ⌝ }
+    last: u32,
+) -> ReplayAnswer
+    requires { ⌜ (length (now bank) ≡ bankSize) × (length (now written) ≡ writtenSize) ⌝ }
     requires { ⌜ atHand (piece end start (now held)) (now bytes) ≡ true ⌝ }
-    ensures { λ r. ⌜ answered r (now (bank .exit) ∷ now (written .exit) ∷ [])
-        ≡ inPiece (piece end start (now (held .entry))) (now (bytes .entry)) (carried (now (bank .entry)) (now (written .entry))) ⌝ }
+    ensures { λ r. ⌜ replayAnswered r (now (bank .exit) ∷ now (written .exit) ∷ [])
+        ≡ inPiece (piece end start (now (held .entry))) (now (bytes .entry))
+        (carried (now (bank .entry)) (now (written .entry)) last) ⌝ }
 {
     if !takes_part(bytes, end) {
-        return replay_step(bank, written, bytes, end, &held[..0]);
+        return replay_step(bank, written, bytes, end, &held[..0], last);
     }
     let from = (offset_in(bytes) - start) as usize;
     let to = from + size_in(bytes) as usize;
-    replay_step(bank, written, bytes, end, &held[from..to])
+    replay_step(bank, written, bytes, end, &held[from..to], last)
 }
 
-// The line of record i, from `at` on. The new end is answered.
+// Where the lines so far end, and the number of the last load.
+struct Reached {
+    end: usize,
+    last: u32,
+}
+
+// The line of record i, from the end of those before it. The new end is answered, and the last number after it.
 fn replay_next(
     bank: &mut [u8],
     written: &mut [u8],
@@ -68,23 +76,26 @@ fn replay_next(
     start: u64,
     held: &[u8],
     out: &mut [u8],
-    at: usize,
-) -> usize
-    requires { ⌜ (length (now bank) ≡ bankSize) × (length (now written) ≡ mapSize) ⌝ }
+    at: Reached,
+) -> Reached
+    requires { ⌜ (length (now bank) ≡ bankSize) × (length (now written) ≡ writtenSize) ⌝ }
     requires { ⌜ i < recordCount (now input) ⌝ }
     requires { ⌜ atHand (piece end start (now held)) (recordOf replaySize (now input) i) ≡ true ⌝ }
-    requires { ⌜ at + replayRoom ≤ length (now out) ⌝ }
+    requires { ⌜ at .end + replayRoom ≤ length (now out) ⌝ }
     ensures { λ r. ⌜ Replayed (piece end start (now (held .entry))) (recordOf replaySize (now (input .entry)) i)
-        (carried (now (bank .entry)) (now (written .entry))) (now (out .entry)) at
-        (carried (now (bank .exit)) (now (written .exit))) (now (out .exit)) r ⌝ }
+        (carried (now (bank .entry)) (now (written .entry)) (at .last)) (now (out .entry)) (at .end)
+        (carried (now (bank .exit)) (now (written .exit)) (r .last)) (now (out .exit)) (r .end) ⌝ }
 {
     let from = i * RECORD;
     let to = record_end(input, i);
-    let answer = replay_at_hand(bank, written, &input[from..to], end, start, held);
-    put_line(answer, out, at)
+    let answer = replay_at_hand(bank, written, &input[from..to], end, start, held, at.last);
+    Reached {
+        end: put_line(answer, out, at.end),
+        last: answer.number,
+    }
 }
 
-// The lines of the first `count` records, which are ready, at the front of `out`. Their end is answered.
+// The lines of the first `count` records, which are ready, at the front of `out`. Their end is answered, and the last number after them.
 fn replay_ready(
     bank: &mut [u8],
     written: &mut [u8],
@@ -94,15 +105,16 @@ fn replay_ready(
     start: u64,
     held: &[u8],
     out: &mut [u8],
-) -> usize
-    requires { ⌜ (length (now bank) ≡ bankSize) × (length (now written) ≡ mapSize) ⌝ }
+    last: u32,
+) -> Reached
+    requires { ⌜ (length (now bank) ≡ bankSize) × (length (now written) ≡ writtenSize) ⌝ }
     requires { ⌜ count ≡ ready (piece end start (now held)) (recordsIn (now input)) ⌝ }
     requires { ⌜ replayRoom * recordCount (now input) ≤ length (now out) ⌝ }
     ensures { λ r. ⌜ Run (piece end start (now (held .entry))) (firstRecords (now (input .entry)) count)
-        (carried (now (bank .entry)) (now (written .entry))) (now (out .entry))
-        (carried (now (bank .exit)) (now (written .exit))) (now (out .exit)) r ⌝ }
+        (carried (now (bank .entry)) (now (written .entry)) last) (now (out .entry))
+        (carried (now (bank .exit)) (now (written .exit)) (r .last)) (now (out .exit)) (r .end) ⌝ }
 {
-    let mut at = 0;
+    let mut at = Reached { end: 0, last };
     for i in 0..count {
         at = replay_next(bank, written, input, i, end, start, held, out, at);
     }
@@ -116,7 +128,7 @@ fn run_refusal(bank: &[u8], written: &[u8], input: &[u8], out: &[u8]) -> u32
     if bank.len() != Bank::SIZE {
         return refusal::LENGTH;
     }
-    if written.len() != Bank::SIZE / 8 {
+    if written.len() != Bank::WRITTEN_SIZE {
         return refusal::LENGTH;
     }
     if out.len() < LINE_ROOM * record_count(input) {
@@ -126,9 +138,10 @@ fn run_refusal(bank: &[u8], written: &[u8], input: &[u8], out: &[u8]) -> u32
     }
 }
 
-// Replays the records of an input, up to the first whose part of the companion file is not in the piece at hand. It answers how many
-// those are, and where their lines end, at the front of `out`; or its refusal (1, 6), and every buffer as it was lent. With the whole
-// file at hand, every record is replayed.
+// Replays the records of an input after a load of the number `last`, up to the first whose part of the companion file is not in the piece
+// at hand. It answers how many those are, where their lines end, at the front of `out`, and the last number after them; or its refusal
+// (1, 6) with the number passed, and every buffer as it was lent. With the whole file at hand, every record is replayed. After the
+// 65,535th load each further one is refused with 18, and keys go on.
 pub fn replay_run(
     bank: &mut [u8],
     written: &mut [u8],
@@ -137,10 +150,11 @@ pub fn replay_run(
     start: u64,
     held: &[u8],
     out: &mut [u8],
+    last: u32,
 ) -> RunAnswer
     ensures { λ r. ⌜ runAnswered r (now (bank .exit) ∷ now (written .exit) ∷ now (out .exit) ∷ [])
         ≡ runCall (now (bank .entry)) (now (written .entry)) (now (input .entry)) (piece end start (now (held .entry)))
-        (now (out .entry)) ⌝ }
+        (now (out .entry)) last ⌝ }
 {
     let no = run_refusal(bank, written, input, out);
     if no != 0 {
@@ -148,13 +162,15 @@ pub fn replay_run(
             refusal: no,
             records: 0,
             end: 0,
+            number: last,
         };
     }
     let records = ready_count(input, end, start, held);
-    let at = replay_ready(bank, written, input, records, end, start, held, out);
+    let at = replay_ready(bank, written, input, records, end, start, held, out, last);
     RunAnswer {
         refusal: 0,
         records,
-        end: at,
+        end: at.end,
+        number: at.last,
     }
 }

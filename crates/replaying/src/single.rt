@@ -7,12 +7,13 @@ ghost use lib.Dec.{ltb};
 ghost use lib.ListN.{length};
 ghost use Rattle.rules.specs.Refusal.{first};
 ghost use Rattle.rules.specs.Replay.{sizeIn, asksKey, replayTests, replayCall};
-ghost use Rattle.rdp.specs.View.{answered};
+ghost use Rattle.rdp.specs.View.{replayAnswered};
 use crate::fields::asks_key;
 use crate::fields::size_in;
 use crate::refusals::record_refusal;
+use crate::refusals::takes_none;
 use crate::step::replay_step;
-use rdp::answer::Answer;
+use rdp::answer::ReplayAnswer;
 use rdp::refusal;
 use tmem::bank::Bank;
 
@@ -24,13 +25,21 @@ fn is_short(bytes: &[u8], part: &[u8]) -> bool
 }
 
 // The call's first refusal.
-fn replay_refusal(bank: &[u8], written: &[u8], bytes: &[u8], end: u64, part: &[u8]) -> u32
-    ensures { λ r. ⌜ r ≡ first (replayTests (now (bank .entry)) (now (written .entry)) (now (bytes .entry)) end (now (part .entry))) ⌝ }
+fn replay_refusal(
+    bank: &[u8],
+    written: &[u8],
+    bytes: &[u8],
+    end: u64,
+    part: &[u8],
+    last: u32,
+) -> u32
+    ensures { λ r. ⌜ r ≡ first (replayTests (now (bank .entry)) (now (written .entry)) (now (bytes .entry)) end (now (part .entry))
+        last) ⌝ }
 {
     if bank.len() != Bank::SIZE {
         return refusal::LENGTH;
     }
-    if written.len() != Bank::SIZE / 8 {
+    if written.len() != Bank::WRITTEN_SIZE {
         return refusal::LENGTH;
     }
     let no = record_refusal(bytes, end);
@@ -38,7 +47,10 @@ fn replay_refusal(bank: &[u8], written: &[u8], bytes: &[u8], end: u64, part: &[u
         return no;
     }
     if is_short(bytes, part) {
-        refusal::BEYOND
+        return refusal::BEYOND;
+    }
+    if takes_none(bytes, last) {
+        refusal::SPENT
     } else {
         0
     }
@@ -52,26 +64,29 @@ fn named(bytes: &[u8], part: &[u8]) -> usize
     if size < part.len() { size } else { part.len() }
 }
 
-// One record over a lent bank and written map. The companion file has `end` bytes, and `part` holds those from the record's offset
-// on, of which exactly the stated ones are read. It answers the count of its stores, or for a key of its kept bytes; or its refusal
-// (1, 8, 10, 2, 3, 4, 11, 5), and bank and map as they were lent.
+// One record over a lent bank and written map, after a load of the number `last`. The companion file has `end` bytes, and `part` holds
+// those from the record's offset on, of which exactly the stated ones are read. It answers the count of its stores, or for a key of its
+// kept bytes, and the last number after it; or its refusal (1, 8, 10, 2, 3, 4, 11, 5, 18) with the number passed, and bank and map as
+// they were lent.
 pub fn replay_record(
     bank: &mut [u8],
     written: &mut [u8],
     bytes: &[u8],
     end: u64,
     part: &[u8],
-) -> Answer
-    ensures { λ r. ⌜ answered r (now (bank .exit) ∷ now (written .exit) ∷ [])
-        ≡ replayCall (now (bank .entry)) (now (written .entry)) (now (bytes .entry)) end (now (part .entry)) ⌝ }
+    last: u32,
+) -> ReplayAnswer
+    ensures { λ r. ⌜ replayAnswered r (now (bank .exit) ∷ now (written .exit) ∷ [])
+        ≡ replayCall (now (bank .entry)) (now (written .entry)) (now (bytes .entry)) end (now (part .entry)) last ⌝ }
 {
-    let no = replay_refusal(bank, written, bytes, end, part);
+    let no = replay_refusal(bank, written, bytes, end, part, last);
     if no != 0 {
-        return Answer {
+        return ReplayAnswer {
             refusal: no,
             count: 0,
+            number: last,
         };
     }
     let size = named(bytes, part);
-    replay_step(bank, written, bytes, end, &part[..size])
+    replay_step(bank, written, bytes, end, &part[..size], last)
 }

@@ -5,8 +5,9 @@ pub mod Readings
 pub mod Keys
 pub mod Over
 pub mod Parts
-pub mod Maps
 pub mod Bits
+pub mod Maps
+pub mod Numbers
 pub mod Loads
 pub mod MadeUp
 pub mod Swaps
@@ -20,6 +21,7 @@ pub mod Visible
 pub mod Records
 pub mod ReplayTests
 pub mod Replay
+pub mod ReplayNumbers
 pub mod ReplayPieces
 pub mod Worked
 pub mod PamWorked

@@ -1,14 +1,14 @@
--- Laws of stores: they are carried out list after list, and keep the bank's length; a word's, by its shape.
+-- Laws of stores: they are carried out list after list, and keep the lengths of bank and written record; a word's, by its shape.
 use mathlib.Core.Path.{_≡_, refl, ap, _∙_}
 use mathlib.Core.Bool.{Bool, true, false, cond}
 use mathlib.Core.List.{List, [], _∷_, _++_}
 use Prim.Native.Nat.{ℕ, _+_, _*_, _%_}
 use lib.Bits.{bitAnd, bitXor}
 use lib.ListN.{length, getD, length-set}
-use Rattle.rules.specs.Base.{tab, concat}
+use Rattle.rules.specs.Base.{tab, concat, stamps}
 use Rattle.rules.specs.Load.{Store, store, LoadTile, halfword, base, firstSpot, oddSpot, list4, splits, upper, splitAt}
 use Rattle.rules.specs.Load.{splitStores, wholeStores, wordStores, stored, addresses, written}
-use Rattle.rules.proofs.Maps.{marks-append, length-marks}
+use Rattle.rules.proofs.Numbers.{stamps-append, length-stamps}
 
 pub stored-append : (src : List ℕ) (l m : List Store) (bank : List ℕ) → stored src (l ++ m) bank ≡ stored src m (stored src l bank)
 unfolding stored
@@ -24,13 +24,13 @@ addresses-append : (l m : List Store) → addresses (l ++ m) ≡ addresses l ++ 
 addresses-append [] m = refl
 addresses-append (s ∷ l) m = ap (λ r. s .at ∷ r) (addresses-append l m)
 
-pub written-append : (l m : List Store) (map : List ℕ) → written (l ++ m) map ≡ written m (written l map)
+pub written-append : (n : ℕ) (l m : List Store) (map : List ℕ) → written n (l ++ m) map ≡ written n m (written n l map)
 unfolding written
-written-append l m map = ap (Rattle.rules.specs.Base.marks map) (addresses-append l m) ∙ marks-append map (addresses l) (addresses m)
+written-append n l m map = ap (stamps n map) (addresses-append l m) ∙ stamps-append n map (addresses l) (addresses m)
 
-pub length-written : (l : List Store) (map : List ℕ) → length (written l map) ≡ length map
+pub length-written : (n : ℕ) (l : List Store) (map : List ℕ) → length (written n l map) ≡ length map
 unfolding written
-length-written l map = length-marks map (addresses l)
+length-written n l map = length-stamps n map (addresses l)
 
 -- the stores of a split word, by whether its format is 1: what `splitStores` unfolds to
 abbrev pub splitBy : Bool → List ℕ → ℕ → (ℕ → ℕ) → List Store

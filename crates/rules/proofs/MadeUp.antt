@@ -11,11 +11,11 @@ use lib.Dec.{eqb, ltb, leb}
 use lib.ListN.{length, getD, set, replicate}
 use borrow.Author.Tests.{le-leb, lt-leb, lt-ltb, le-ltb}
 use Rattle.rules.specs.Base.{one, tab, tabFrom, concat, any, howMany}
-use Rattle.rules.specs.Refusal.{Test, first, settle, call}
+use Rattle.rules.specs.Refusal.{Test, first, settle, callOr}
 use Rattle.rules.specs.Calls.{loaded}
 use Rattle.rules.specs.Load.{Store, store, LoadTile, imageTile, splitStores, wholeStores, wordStores, wordColumns, blockStores}
 use Rattle.rules.specs.Load.{tileRow, tileStores, advance, steps, hardwareStores, entryStores, entryRow, rowStores, stored, written}
-use Rattle.rules.specs.Load.{madeUp, wordMadeUp}
+use Rattle.rules.specs.Load.{following, madeUp, wordMadeUp}
 use Rattle.rules.proofs.Loads.{splitBy, either-shape}
 
 -- of how many in a list f holds
@@ -64,13 +64,14 @@ made-up-within size l = how-many-within (past size) l
 
 -- and so a load's second number is at most its first, refused or not
 pub load-within : (tests : List Test) (l : List Store) (bank map src : List ℕ)
-    → getD (loaded tests l bank map src .numbers) 1 0 ≤ getD (loaded tests l bank map src .numbers) 0 0
-unfolding call settle
-load-within tests l bank map src = go (first tests)
+    (last : ℕ) → getD (loaded tests l bank map src last .numbers) 1 0 ≤ getD (loaded tests l bank map src last .numbers) 0 0
+unfolding callOr settle
+load-within tests l bank map src last = go (first tests)
   where
     answers : ℕ → List ℕ
     answers n =
-        settle n (length l ∷ madeUp (length src) l ∷ []) (stored src l bank ∷ written l map ∷ []) (bank ∷ map ∷ []) .numbers
+        settle n (length l ∷ madeUp (length src) l ∷ following last ∷ []) (0 ∷ 0 ∷ last ∷ [])
+        (stored src l bank ∷ written (following last) l map ∷ []) (bank ∷ map ∷ []) .numbers
 
     go : (n : ℕ) → getD (answers n) 1 0 ≤ getD (answers n) 0 0
     go zero = made-up-within (length src) l
@@ -100,10 +101,10 @@ padded src n (s ∷ l) bank =
     padded src n l _ ∙ ap (λ b. stored src l (set bank (s .at) b)) (padded-byte src n (s .from))
 
 -- and so is what a load leaves, where neither is refused
-pub padded-load : (tests tests′ : List Test) (l : List Store) (bank map src : List ℕ) (n : ℕ) → first tests ≡ 0 → first tests′ ≡ 0
-    → loaded tests l bank map (src ++ replicate n 0) .buffers ≡ loaded tests′ l bank map src .buffers
-unfolding call settle
-padded-load tests tests′ l bank map src n z z′ = rw (z, z′, padded src n l bank)
+pub padded-load : (tests tests′ : List Test) (l : List Store) (bank map src : List ℕ) (last n : ℕ) → first tests ≡ 0 → first tests′ ≡ 0
+    → loaded tests l bank map (src ++ replicate n 0) last .buffers ≡ loaded tests′ l bank map src last .buffers
+unfolding callOr settle
+padded-load tests tests′ l bank map src last n z z′ = rw (z, z′, padded src n l bank)
 
 -- a store takes its byte from the padding of a source of `size` bytes to n more
 abbrev pub inPadding : ℕ → ℕ → Store → Bool

@@ -7,7 +7,7 @@ use lib.Dec.{eqb}
 use borrow.Author.Tests.{eq-eqb, ne-eqb, eqb-false}
 use mir.Val.{boolByte}
 use Rattle.rules.specs.Base.{one}
-use Rattle.rules.specs.Refusal.{Test, first, zeros, settle, call}
+use Rattle.rules.specs.Refusal.{Test, first, zeros, settle, callOr, call}
 
 pub first-next : (t : Test) (l : List Test) → t .fails ≡ false → first (t ∷ l) ≡ first l
 unfolding first
@@ -77,34 +77,48 @@ first-before l m k n e h = e ∙ sym (first-append l m n ∙ rw (ne-eqb (first l
 pub first-after : (l m : List Test) → Numbered l → first l ≡ 0 → first (l ++ m) ≡ first m
 first-after l m n e = first-append l m n ∙ rw (eq-eqb (first l) 0 e)
 
-settled : (n : ℕ) (numbers : List ℕ) (left lent : List (List ℕ)) → (n ≡ 0 → ⊥)
-    → record { refusal = n; numbers = zeros numbers; buffers = lent } ≡ settle n numbers left lent
-unfolding settle
-settled zero numbers left lent z = absurd (z refl)
-settled (suc n) numbers left lent z = refl
+module _ (tests : List Test) (numbers instead : List ℕ) (left lent : List (List ℕ)) where
+  settled : (n : ℕ) → (n ≡ 0 → ⊥) → record { refusal = n; numbers = instead; buffers = lent } ≡ settle n numbers instead left lent
+  unfolding settle
+  settled zero z = absurd (z refl)
+  settled (suc n) z = refl
 
-settled-refusal : (n : ℕ) (numbers : List ℕ) (left lent : List (List ℕ)) → (settle n numbers left lent) .refusal ≡ n
-unfolding settle
-settled-refusal zero numbers left lent = refl
-settled-refusal (suc n) numbers left lent = refl
+  settled-refusal : (n : ℕ) → (settle n numbers instead left lent) .refusal ≡ n
+  unfolding settle
+  settled-refusal zero = refl
+  settled-refusal (suc n) = refl
 
--- A call answers its first refusal.
-pub call-refusal : (tests : List Test) (numbers : List ℕ) (left lent : List (List ℕ))
-    → (call tests numbers left lent) .refusal ≡ first tests
-unfolding call
-call-refusal tests numbers left lent = settled-refusal (first tests) numbers left lent
+  -- A call answers its first refusal.
+  pub call-or-refusal : (callOr tests numbers instead left lent) .refusal ≡ first tests
+  unfolding callOr
+  call-or-refusal = settled-refusal (first tests)
 
--- An answer with the first refusal's number, zeros and the buffers as lent is the call's.
-pub refused-is : (tests : List Test) (numbers : List ℕ) (left lent : List (List ℕ)) (n : ℕ) → n ≡ first tests → (n ≡ 0 → ⊥)
-    → record { refusal = n; numbers = zeros numbers; buffers = lent } ≡ call tests numbers left lent
-unfolding call
-refused-is tests numbers left lent n e h = settled n numbers left lent h ∙ ap (λ k. settle k numbers left lent) e
+  -- An answer with the first refusal's number, what it answers instead and the buffers as lent is the call's.
+  pub refused-or-is : (n : ℕ) → n ≡ first tests → (n ≡ 0 → ⊥)
+      → record { refusal = n; numbers = instead; buffers = lent } ≡ callOr tests numbers instead left lent
+  unfolding callOr
+  refused-or-is n e h = settled n h ∙ ap (λ k. settle k numbers instead left lent) e
 
--- Where nothing is refused, so is an answer 0 with the call's numbers and buffers.
-pub done-is : (tests : List Test) (numbers : List ℕ) (left lent : List (List ℕ)) → first tests ≡ 0
-    → record { refusal = 0; numbers = numbers; buffers = left } ≡ call tests numbers left lent
-unfolding call settle
-done-is tests numbers left lent e = ap (λ k. settle k numbers left lent) (sym e)
+  -- Where nothing is refused, so is an answer 0 with the call's numbers and buffers.
+  pub done-or-is : first tests ≡ 0
+      → record { refusal = 0; numbers = numbers; buffers = left } ≡ callOr tests numbers instead left lent
+  unfolding callOr settle
+  done-or-is e = ap (λ k. settle k numbers instead left lent) (sym e)
+
+-- The same of calls that answer zeros where they refuse.
+module _ (tests : List Test) (numbers : List ℕ) (left lent : List (List ℕ)) where
+  pub call-refusal : (call tests numbers left lent) .refusal ≡ first tests
+  unfolding call callOr
+  call-refusal = call-or-refusal tests numbers (zeros numbers) left lent
+
+  pub refused-is : (n : ℕ) → n ≡ first tests → (n ≡ 0 → ⊥)
+      → record { refusal = n; numbers = zeros numbers; buffers = lent } ≡ call tests numbers left lent
+  unfolding call callOr
+  refused-is = refused-or-is tests numbers (zeros numbers) left lent
+
+  pub done-is : first tests ≡ 0 → record { refusal = 0; numbers = numbers; buffers = left } ≡ call tests numbers left lent
+  unfolding call callOr
+  done-is = done-or-is tests numbers (zeros numbers) left lent
 
 -- a yes or no that was cast to a number
 pub one-byte : (b : Bool) → boolByte b ≡ one b

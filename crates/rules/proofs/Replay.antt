@@ -1,23 +1,26 @@
 -- Laws of the replay: its end state, what a refused record and a key leave, and what every bank along the way keeps.
 use mathlib.Core.Path.{_≡_, refl, ap, sym, _∙_}
-use mathlib.Core.Bool.{Bool, true, false, cond}
+use mathlib.Core.Bool.{Bool, true, false, cond, not, _&&_, true≢false}
 use mathlib.Core.List.{List, [], _∷_, _++_, append-assoc}
-use Prim.Native.Nat.{ℕ, zero, suc, _+_, _<_}
+use Prim.Native.Nat.{ℕ, zero, suc, _+_, _<_, _≤_}
 use native.Mathlib.Omega.{arith}
 use native.Mathlib.Decide.{ℕ-discrete, decLt}
+use lib.Dec.{eqb}
 use lib.ListN.{length, getD, set, replicate, take, drop, length-take, List·getD-eq-default, length-replicate, getD-replicate}
 use lib.Seq.{getD-take, getD-drop, getD-set-same, getD-set-other, set-out}
-use borrow.Author.Tests.{eq-eqb, not-false}
-use Rattle.rules.specs.Tile.{bankSize, mapSize}
-use Rattle.rules.specs.Load.{Store, stored, written}
+use borrow.Author.Tests.{eq-eqb, eqb-true, not-false, not-true}
+use Rattle.rules.specs.Tile.{bankSize, writtenSize}
+use Rattle.rules.specs.Load.{Store, stored, written, following}
 use Rattle.rules.specs.Key.{keptCount, Bytes}
-use Rattle.rules.specs.Refusal.{Outcome, first, settle, call}
+use Rattle.rules.specs.Refusal.{Test, Outcome, first, settle, callOr}
 use Rattle.rules.specs.Lister.{lineText}
-use Rattle.rules.specs.Replay.{laneIn, tileIn, modeIn, offsetIn, sizeIn, asksKey, storesIn, recordTests, takesPart}
-use Rattle.rules.specs.Replay.{Carried, carried, fresh, countOf, left, outcome, partOf, inFile}
+use Rattle.rules.specs.Replay.{laneIn, tileIn, modeIn, offsetIn, sizeIn, asksKey, storesIn}
+use Rattle.rules.specs.Replay.{Carried, carried, fresh, countOf, left, lastOf, tested, stepTests, outcome, partOf, inFile}
 use Rattle.rules.specs.Replay.{lineIn, onward, replayed, lines, texts}
 use Rattle.rules.proofs.Loads.{length-stored, length-written}
-use Rattle.rules.proofs.Refused.{call-refusal}
+use Rattle.rules.proofs.Ranges.{both}
+use Rattle.rules.proofs.Refused.{call-or-refusal}
+use Rattle.rules.proofs.ReplayTests.{number-left}
 
 -- Records one after the other, whatever a record's outcome is.
 module _ (step : List ℕ → Carried → Outcome) where
@@ -40,79 +43,101 @@ texts-append (x ∷ l) k = ap (λ t. lineText x ++ t) (texts-append l k) ∙ sym
 
 -- What a record leaves, by its refusal.
 module _ (end : ℕ) (src r : List ℕ) (m : Carried) where
-  pub refusal-of : outcome end src r m .refusal ≡ first (recordTests end r)
-  unfolding outcome
-  refusal-of = call-refusal (recordTests end r) (countOf r (m .bank) ∷ []) (left src r m) (m .bank ∷ m .map ∷ [])
+  abbrev tests : List Test
+  tests = stepTests end r (m .last)
+
+  pub refusal-of : outcome end src r m .refusal ≡ first tests
+  unfolding outcome tested
+  refusal-of = call-or-refusal tests _ _ _ _
 
   -- "a refused record changes nothing"
   pub refused-keeps : (outcome end src r m .refusal ≡ 0 → ⊥) → onward (outcome end src r m) ≡ m
-  unfolding outcome call settle
-  refused-keeps h = go (first (recordTests end r)) (λ e. h (refusal-of ∙ e))
+  unfolding outcome tested callOr settle
+  refused-keeps h = go (first tests) (λ e. h (refusal-of ∙ e))
     where
-      go : (n : ℕ) → (n ≡ 0 → ⊥) → onward (settle n (countOf r (m .bank) ∷ []) (left src r m) (m .bank ∷ m .map ∷ [])) ≡ m
+      go : (n : ℕ) → (n ≡ 0 → ⊥)
+          → onward (settle n (countOf r (m .bank) ∷ lastOf r (m .last) ∷ []) (0 ∷ m .last ∷ []) (left src r m) (m .bank ∷ m .map ∷ [])) ≡ m
       go zero z = absurd (z refl)
       go (suc n) z = refl
 
   -- a key changes nothing
   pub key-keeps : asksKey r ≡ true → onward (outcome end src r m) ≡ m
-  unfolding outcome call settle left
-  key-keeps e = rw e (go (first (recordTests end r)))
+  unfolding outcome tested callOr settle left
+  key-keeps e = go (first tests) (asksKey r) e
     where
-      go : (n : ℕ) → onward (settle n (countOf r (m .bank) ∷ []) (m .bank ∷ m .map ∷ []) (m .bank ∷ m .map ∷ [])) ≡ m
-      go zero = refl
-      go (suc n) = refl
+      go : (n : ℕ) (k : Bool) → k ≡ true
+          → onward (settle n (countOf r (m .bank) ∷ cond k (m .last) (following (m .last)) ∷ []) (0 ∷ m .last ∷ [])
+          (cond k (m .bank ∷ m .map ∷ [])
+          (stored src (storesIn r) (m .bank) ∷ written (following (m .last)) (storesIn r) (m .map) ∷ []))
+          (m .bank ∷ m .map ∷ [])) ≡ m
+      go zero true h = refl
+      go zero false h = absurd (true≢false (sym h))
+      go (suc n) k h = refl
 
   -- and its line has the kept count of the bank as it stands
   pub key-line : asksKey r ≡ true → outcome end src r m .refusal ≡ 0
       → lineIn (outcome end src r m) ≡ 0 ∷ keptCount (tileIn r) (modeIn r) (laneIn r) (m .bank) ∷ []
-  unfolding outcome call settle countOf
-  key-line e h = rw (e, sym refusal-of ∙ h)
+  unfolding outcome tested callOr settle countOf
+  key-line e h = rw (sym refusal-of ∙ h, e)
 
-  -- a load stores its list from the part, and marks it
+  -- a load stores its list from the part, and takes the number that follows
   pub load-leaves : asksKey r ≡ false → outcome end src r m .refusal ≡ 0
-      → onward (outcome end src r m) ≡ carried (stored src (storesIn r) (m .bank)) (written (storesIn r) (m .map))
-  unfolding outcome call settle left
-  load-leaves e h = rw (e, sym refusal-of ∙ h)
+      → onward (outcome end src r m)
+      ≡ carried (stored src (storesIn r) (m .bank)) (written (following (m .last)) (storesIn r) (m .map)) (following (m .last))
+  unfolding outcome tested callOr settle left
+  load-leaves e h = rw (sym refusal-of ∙ h, e)
 
   -- its line has the count of its stores
   pub load-line : asksKey r ≡ false → outcome end src r m .refusal ≡ 0 → lineIn (outcome end src r m) ≡ 0 ∷ length (storesIn r) ∷ []
-  unfolding outcome call settle countOf
-  load-line e h = rw (e, sym refusal-of ∙ h)
+  unfolding outcome tested callOr settle countOf
+  load-line e h = rw (sym refusal-of ∙ h, e)
 
--- "The end state must be that of the loads done in file order": the loads that were done
+-- "The end state must be that of the loads done in file order": the loads that were done, which no test refused
 module _ (file : List ℕ) where
+  unfoldable pub loads : List ℕ → ℕ → Bool
+  loads r last = eqb (first (stepTests (length file) r last)) 0 && not (asksKey r)
+
   unfoldable pub done : List (List ℕ) → Carried → List (List ℕ)
   done [] m = []
-  done (r ∷ l) m =
-      cond (takesPart (length file) r) (r ∷ done l (onward (inFile file r m))) (done l m)
+  done (r ∷ l) m = cond (loads r (m .last)) (r ∷ done l (onward (inFile file r m))) (done l m)
 
-  not-done-keeps : (r : List ℕ) (m : Carried) → takesPart (length file) r ≡ false → onward (inFile file r m) ≡ m
-  unfolding inFile takesPart
-  not-done-keeps r m h = go (ℕ-discrete (first (recordTests (length file) r)) 0)
-    where
-      own : List ℕ
-      own = partOf r (drop (offsetIn r) file)
+  module _ (r : List ℕ) (m : Carried) where
+    abbrev pub own : List ℕ
+    own = partOf r (drop (offsetIn r) file)
 
-      go : Dec (first (recordTests (length file) r) ≡ 0) → onward (outcome (length file) own r m) ≡ m
-      go (yes e) = key-keeps (length file) own r m (not-false (asksKey r) (rw (eq-eqb _ _ e) at h))
-      go (no e) = refused-keeps (length file) own r m (λ z. e (sym (refusal-of (length file) own r m) ∙ z))
+    pub not-done-keeps : loads r (m .last) ≡ false → onward (inFile file r m) ≡ m
+    unfolding inFile loads
+    not-done-keeps h = go (ℕ-discrete (first (stepTests (length file) r (m .last))) 0)
+      where
+        go : Dec (first (stepTests (length file) r (m .last)) ≡ 0) → onward (outcome (length file) own r m) ≡ m
+        go (yes e) = key-keeps (length file) own r m (not-false (asksKey r) (rw (eq-eqb _ _ e) at h))
+        go (no e) = refused-keeps (length file) own r m (λ z. e (sym (refusal-of (length file) own r m) ∙ z))
+
+    pub done-leaves : loads r (m .last) ≡ true
+        → onward (inFile file r m)
+        ≡ carried (stored own (storesIn r) (m .bank)) (written (following (m .last)) (storesIn r) (m .map)) (following (m .last))
+    unfolding inFile loads
+    done-leaves h =
+        let b = both (eqb (first (stepTests (length file) r (m .last))) 0) (not (asksKey r)) h in
+        load-leaves (length file) own r m (not-true (asksKey r) (b .1)) (refusal-of (length file) own r m ∙ eqb-true _ _ (b .0))
 
   pub end-state : (l : List (List ℕ)) (m : Carried) → replayed (inFile file) l m ≡ replayed (inFile file) (done l m) m
   unfolding replayed done
   end-state [] m = refl
-  end-state (r ∷ l) m = go (takesPart (length file) r) refl (end-state l)
+  end-state (r ∷ l) m = go (loads r (m .last)) refl (end-state l)
     where
-      go : (b : Bool) → takesPart (length file) r ≡ b → ((n : Carried) → replayed (inFile file) l n ≡ replayed (inFile file) (done l n) n)
+      go : (b : Bool) → loads r (m .last) ≡ b → ((n : Carried) → replayed (inFile file) l n ≡ replayed (inFile file) (done l n) n)
           → replayed (inFile file) l (onward (inFile file r m))
           ≡ replayed (inFile file) (cond b (r ∷ done l (onward (inFile file r m))) (done l m)) m
       go true e ih = ih (onward (inFile file r m))
       go false e ih = rw (not-done-keeps r m e) (ih m)
 
--- What every bank and map along a replay keeps: their lengths, and that the bank is of bytes.
+-- What every bank, map and number along a replay keeps: the lengths, that the bank is of bytes, and that the number is one of two bytes.
 pub record Sound (m : Carried) : Type 0 where
   pub bank-size : length (m .bank) ≡ bankSize
-  pub map-size : length (m .map) ≡ mapSize
+  pub map-size : length (m .map) ≡ writtenSize
   pub bytes : Bytes (m .bank)
+  pub last-in : m .last ≤ 65535
 
 zero-bytes : (n : ℕ) → Bytes (replicate n 0)
 unfolding Bytes
@@ -126,8 +151,9 @@ pub fresh-sound : Sound fresh
 fresh-sound =
     record {
       bank-size = length-replicate {A = ℕ} bankSize 0;
-      map-size = length-replicate {A = ℕ} mapSize 0;
+      map-size = length-replicate {A = ℕ} writtenSize 0;
       bytes = zero-bytes bankSize;
+      last-in = omega arith;
     }
 
 set-bytes : (l : List ℕ) (i v : ℕ) → v < 256 → Bytes l → Bytes (set l i v)
@@ -162,8 +188,9 @@ outcome-sound end src r m s h = go (ℕ-discrete (outcome end src r m .refusal) 
         rw (load-leaves end src r m k e)
         (record {
           bank-size = length-stored src (storesIn r) (m .bank) ∙ h .bank-size;
-          map-size = length-written (storesIn r) (m .map) ∙ h .map-size;
+          map-size = length-written (following (m .last)) (storesIn r) (m .map) ∙ h .map-size;
           bytes = stored-bytes src (storesIn r) (m .bank) s (h .bytes);
+          last-in = omega (arith, number-left end r (m .last) k (sym (refusal-of end src r m) ∙ e));
         })
 
 -- Demand 3 at each record: its theorems ask of a bank just this, so they hold of the bank as it stands after any records.

@@ -6,17 +6,20 @@ use Prim.Native.Nat.{ℕ, zero, suc, _+_, _-_, _*_, _/_, _%_, _<_, _≤_}
 use native.Mathlib.Omega.{arith}
 use native.Mathlib.Nat.{add-zero}
 use native.Mathlib.Decide.{decLt}
-use lib.Dec.{eqb, ltb}
+use lib.Dec.{eqb, ltb, eqb·suc-zero}
 use lib.ListN.{length, take, drop, length-append, take-append-drop, drop-of-length-le}
 use lib.Seq.{length-take-le, drop-drop}
 use borrow.Author.Tests.{ltb-false, not-true}
 use Rattle.rules.specs.Base.{recordOf}
-use Rattle.rules.specs.Load.{stored, written}
-use Rattle.rules.specs.Refusal.{Outcome, first, settle, call}
+use Rattle.rules.specs.Load.{stored, written, following}
+use Rattle.rules.specs.Refusal.{Outcome, first, settle, callOr}
 use Rattle.rules.specs.Replay.{replaySize, offsetIn, sizeIn, asksKey, storesIn, recordTests, takesPart}
-use Rattle.rules.specs.Replay.{Carried, countOf, left, outcome, partOf, inFile, lineIn, onward, replayed, lines, texts}
+use Rattle.rules.specs.Replay.{Carried, spent, countOf, left, lastOf, tested, outcome, partOf, inFile}
+use Rattle.rules.specs.Replay.{lineIn, onward, replayed, lines, texts}
 use Rattle.rules.specs.Replay.{recordCount, firstRecords, recordsIn, Piece, atHand, partIn, inPiece, ready}
 use Rattle.rules.proofs.Ranges.{both}
+use Rattle.rules.proofs.Refused.{first-append}
+use Rattle.rules.proofs.ReplayTests.{tests-numbered}
 use Rattle.rules.proofs.Records.{take-drop-take, records-append}
 use Rattle.rules.proofs.Replay.{replayed-append, lines-append, texts-append}
 use Rattle.rules.proofs.Tables.{length-tab, tab-none, take-tab}
@@ -28,19 +31,23 @@ pub record OfFile (file : List ℕ) (p : Piece) : Type 0 where
 
 -- where no part is taken, none matters
 unread : (end : ℕ) (src other r : List ℕ) (m : Carried) → takesPart end r ≡ false → outcome end src r m ≡ outcome end other r m
-unfolding outcome call settle left takesPart
-unread end src other r m h = go (first (recordTests end r)) (asksKey r) h
+unfolding outcome tested callOr settle left takesPart
+unread end src other r m h =
+    let tests = first-append (recordTests end r) (spent (m .last) r ∷ []) (tests-numbered end r) in
+    rw tests (go (first (recordTests end r)) (asksKey r) h (first (spent (m .last) r ∷ [])))
   where
-    go : (n : ℕ) (k : Bool) → (eqb n 0 && not k) ≡ false
-        → settle n (countOf r (m .bank) ∷ [])
-        (cond k (m .bank ∷ m .map ∷ []) (stored src (storesIn r) (m .bank) ∷ written (storesIn r) (m .map) ∷ []))
+    -- what is settled with the bytes of a part, where the tests before the number's give n, and the number's gives w
+    with-part : List ℕ → ℕ → Bool → ℕ → Outcome
+    with-part part n k w =
+        settle (cond (eqb n 0) w n) (countOf r (m .bank) ∷ lastOf r (m .last) ∷ []) (0 ∷ m .last ∷ [])
+        (cond k (m .bank ∷ m .map ∷ [])
+        (stored part (storesIn r) (m .bank) ∷ written (following (m .last)) (storesIn r) (m .map) ∷ []))
         (m .bank ∷ m .map ∷ [])
-        ≡ settle n (countOf r (m .bank) ∷ [])
-        (cond k (m .bank ∷ m .map ∷ []) (stored other (storesIn r) (m .bank) ∷ written (storesIn r) (m .map) ∷ []))
-        (m .bank ∷ m .map ∷ [])
-    go zero true e = refl
-    go zero false e = absurd (true≢false e)
-    go (suc n) k e = refl
+
+    go : (n : ℕ) (k : Bool) → (eqb n 0 && not k) ≡ false → (w : ℕ) → with-part src n k w ≡ with-part other n k w
+    go zero true e w = refl
+    go zero false e w = absurd (true≢false e)
+    go (suc n) k e w = rw (eqb·suc-zero n)
 
 piece-part : (file : List ℕ) (n s o size : ℕ) → s ≤ o → o + size ≤ s + n
     → take size (drop (o - s) (take n (drop s file))) ≡ take size (drop o file)

@@ -8,15 +8,15 @@ use lib.Dec.{ltb}
 use lib.ListN.{length}
 use borrow.Author.Tests.{ltb-false, le-ltb}
 use Rattle.rules.specs.Tile.{Tile, loadFieldsOutside}
-use Rattle.rules.specs.Load.{stored, written}
+use Rattle.rules.specs.Load.{stored, written, following}
 use Rattle.rules.specs.Key.{keptCount}
-use Rattle.rules.specs.Refusal.{Test, _if_, first, settle, call}
+use Rattle.rules.specs.Refusal.{Test, _if_, first, settle, callOr}
 use Rattle.rules.specs.Calls.{sourceOutside, numberTests, pairTests, unknownPair}
 use Rattle.rules.specs.Replay.{replaySize, kindIn, laneIn, tileIn, modeIn, imageIn, sizeIn, asksKey, storesIn, outsideIn}
-use Rattle.rules.specs.Replay.{beyond, recordTests, carried, countOf, left, outcome, partOf, shortPart, ownTests, replayTests}
-use Rattle.rules.specs.Replay.{replayCall}
+use Rattle.rules.specs.Replay.{beyond, recordTests, carried, spent, countOf, left, lastOf, tested, stepTests, outcome, partOf}
+use Rattle.rules.specs.Replay.{shortPart, ownTests, replayTests, replayCall}
 use Rattle.rules.proofs.Ranges.{neither}
-use Rattle.rules.proofs.Refused.{Numbered, numbered, first-zero, first-front}
+use Rattle.rules.proofs.Refused.{Numbered, numbered, first-zero, first-front, first-after}
 use Rattle.rules.proofs.LentTests.{lent-passed}
 
 -- a load's numbers with a shorter source
@@ -69,24 +69,45 @@ module _ (end : ℕ) (r : List ℕ) where
     pub load-passes : asksKey r ≡ false → first loadTestsIn ≡ 0
     load-passes e = rw e at (passes .1)
 
-    -- what is answered and left then is the record's outcome
-    pub key-done : (src bank map : List ℕ) (count : ℕ) → asksKey r ≡ true
-        → count ≡ keptCount (tileIn r) (modeIn r) (laneIn r) bank
-        → record { refusal = 0; numbers = count ∷ []; buffers = bank ∷ map ∷ [] } ≡ outcome end src r (carried bank map)
-    unfolding outcome call settle countOf left
-    key-done src bank map count k e = rw (accepted, k, e)
+    -- then the number's test is left
+    pub step-left : (last : ℕ) → first (stepTests end r last) ≡ first (spent last r ∷ [])
+    step-left last = first-after (recordTests end r) (spent last r ∷ []) tests-numbered accepted
 
-    pub load-done : (src bank map bank′ map′ : List ℕ) (count : ℕ) → asksKey r ≡ false → count ≡ length (storesIn r)
-        → bank′ ≡ stored src (storesIn r) bank → map′ ≡ written (storesIn r) map
-        → record { refusal = 0; numbers = count ∷ []; buffers = bank′ ∷ map′ ∷ [] } ≡ outcome end src r (carried bank map)
-    unfolding outcome call settle countOf left
-    load-done src bank map bank′ map′ count k e f g = rw (accepted, k, e, f, g)
+  -- a record that is not refused passes its own tests, and a number is left for it
+  pub step-passed : (last : ℕ) → first (stepTests end r last) ≡ 0 → (first (recordTests end r) ≡ 0) × (spent last r .fails ≡ false)
+  step-passed last z =
+      let own = first-front (recordTests end r) (spent last r ∷ []) tests-numbered z in
+      (own, first-zero (spent last r) [] (λ e. omega arith) (sym (step-left own last) ∙ z) .0)
+
+  pub number-left : (last : ℕ) → asksKey r ≡ false → first (stepTests end r last) ≡ 0 → last ≤ 65534
+  number-left last k z = ltb-false 65534 last (rw k at (step-passed last z .1))
+
+  -- what is answered and left then is the record's outcome
+  module _ (src bank map : List ℕ) (last : ℕ) (passed : first (stepTests end r last) ≡ 0) where
+    pub key-done : (count : ℕ) → asksKey r ≡ true → count ≡ keptCount (tileIn r) (modeIn r) (laneIn r) bank
+        → record { refusal = 0; numbers = count ∷ last ∷ []; buffers = bank ∷ map ∷ [] } ≡ outcome end src r (carried bank map last)
+    unfolding outcome tested callOr settle countOf left
+    key-done count k e = rw (passed, k, e)
+
+    pub load-done : (bank′ map′ : List ℕ) (count : ℕ) → asksKey r ≡ false → count ≡ length (storesIn r)
+        → bank′ ≡ stored src (storesIn r) bank → map′ ≡ written (following last) (storesIn r) map
+        → record { refusal = 0; numbers = count ∷ following last ∷ []; buffers = bank′ ∷ map′ ∷ [] }
+        ≡ outcome end src r (carried bank map last)
+    unfolding outcome tested callOr settle countOf left
+    load-done bank′ map′ count k e f g = rw (passed, k, e, f, g)
 
 -- The call for one record is the record's outcome, where no test of the call fails.
-pub call-outcome : (bank map r : List ℕ) (end : ℕ) (part : List ℕ) → first (replayTests bank map r end part) ≡ 0
-    → outcome end (partOf r part) r (carried bank map) ≡ replayCall bank map r end part
-unfolding outcome replayCall call
-call-outcome bank map r end part z =
-    let passed = lent-passed bank map (ownTests end r part) z .1 in
-    let own : first (recordTests end r) ≡ 0 = first-front (recordTests end r) (shortPart part r ∷ []) (tests-numbered end r) passed in
-    ap (λ n. settle n (countOf r bank ∷ []) (left (partOf r part) r (carried bank map)) (bank ∷ map ∷ [])) (own ∙ sym z)
+module _ (bank map r : List ℕ) (end : ℕ) (part : List ℕ) (last : ℕ) (z : first (replayTests bank map r end part last) ≡ 0) where
+  pub own-passed : first (stepTests end r last) ≡ 0
+  own-passed =
+      let rest = shortPart part r ∷ spent last r ∷ [] in
+      let passed = lent-passed bank map (ownTests end r part last) z .1 in
+      let own = first-front (recordTests end r) rest (tests-numbered end r) passed in
+      let after = sym (first-after (recordTests end r) rest (tests-numbered end r) own) ∙ passed in
+      step-left end r own last ∙ first-zero (shortPart part r) (spent last r ∷ []) (λ e. omega arith) after .1
+
+  pub call-outcome : outcome end (partOf r part) r (carried bank map last) ≡ replayCall bank map r end part last
+  unfolding outcome replayCall tested callOr
+  call-outcome =
+      ap (λ n. settle n (countOf r bank ∷ lastOf r last ∷ []) (0 ∷ last ∷ []) (left (partOf r part) r (carried bank map last))
+      (bank ∷ map ∷ [])) (own-passed ∙ sym z)

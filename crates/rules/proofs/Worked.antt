@@ -1,6 +1,6 @@
 -- The worked examples hold, every row of the table: antt computes both sides.
 use lib.Dec.{T}
-use Rattle.rules.specs.Base.{tab, tabFrom, concat, mem, any, all, same, howMany, distinct, marks, marked}
+use Rattle.rules.specs.Base.{tab, tabFrom, concat, mem, any, all, same, howMany, distinct, numberAt, isWritten, stamped, stamps}
 use Rattle.rules.specs.Reading.{trail, given, andThen, prepend, upTo}
 use Rattle.rules.specs.Texdec.{accepted, acceptedDirect, formatOf}
 use Rattle.rules.specs.Sampling.{flag, texels}
@@ -9,16 +9,20 @@ use Rattle.rules.specs.Load.{hardwareStores, entryStores, entryRow, rowS
 use Rattle.rules.specs.Calls.{blockCall}
 use Rattle.rules.specs.Picture.{picture, visiblePicture, plain, plainRow, lookup, lookupRow, texel, paletted, direct}
 use Rattle.rules.specs.Key.{key, keyOf, kept, keptCount}
-use Rattle.rules.specs.Refusal.{first, settle, call}
+use Rattle.rules.specs.Reach.{rowBytes, trailingZeros, rowPeriod, reachRows, doubled, reachAt, reachRow, reachPlain, reachWhole}
+use Rattle.rules.specs.Reach.{reach, hasLoad}
+use Rattle.rules.specs.Refusal.{first, settle, callOr, call}
 use Rattle.rules.specs.Lister.{recordTile, lineOf, recordLine, lowDigits, reversed, decimal, lineText, listing}
-use Rattle.rules.specs.Replay.{storesIn, outsideIn, recordTests, countOf, left, outcome, inFile, replayed, lines, texts, replayText}
+use Rattle.rules.specs.Replay.{storesIn, outsideIn, recordTests, countOf, left, tested, outcome, inFile, replayed, lines, texts}
+use Rattle.rules.specs.Replay.{replayText}
 use Rattle.rules.specs.Worked.{table, allSame}
 
 pub worked : T (allSame table)
 unfolding table tab tabFrom concat mem any distinct trail given andThen prepend upTo accepted acceptedDirect formatOf flag texels
     stored list4 splitStores wholeStores wordStores blockStores tlutStores hardwareStores rowStores
     picture visiblePicture plain plainRow lookup lookupRow texel paletted direct key keyOf kept keptCount
-    first settle call recordTile lineOf recordLine lowDigits reversed decimal lineText listing
-    written marks marked tileStores storesIn outsideIn recordTests countOf left outcome inFile replayed lines texts replayText
-    all same howMany madeUp entryStores entryRow blockCall
+    first settle callOr call recordTile lineOf recordLine lowDigits reversed decimal lineText listing
+    written stamps stamped tileStores storesIn outsideIn recordTests countOf left tested outcome inFile replayed lines texts replayText
+    all same howMany madeUp entryStores entryRow blockCall numberAt isWritten
+    rowBytes trailingZeros rowPeriod reachRows doubled reachAt reachRow reachPlain reachWhole reach hasLoad
 worked = tt

@@ -1,5 +1,5 @@
 -- Lists, choices, bits and maps: the words that every rule uses.
-use mathlib.Core.Bool.{Bool, true, false, cond, _&&_, _||_}
+use mathlib.Core.Bool.{Bool, true, false, cond, not, _&&_, _||_}
 use mathlib.Core.List.{List, [], _∷_, _++_}
 use Prim.Native.Nat.{ℕ, zero, suc, _+_, _*_, _/_, _%_, _^_}
 use lib.Bits.{bitOr}
@@ -85,3 +85,21 @@ marked map a = set map (a / 8) (bitOr (getD map (a / 8) 0) (2 ^ (a % 8)))
 unfoldable pub marks : List ℕ → List ℕ → List ℕ
 marks map [] = map
 marks map (a ∷ l) = marks (marked map a) l
+
+-- "The written record shall hold, for every address, the number of the last load that stored there, counted from 1 since the fresh
+-- state, 0 for none"; "two an address, big end first"
+unfoldable pub numberAt : List ℕ → ℕ → ℕ
+numberAt map a = 256 * getD map (2 * a) 0 + getD map (2 * a + 1) 0
+
+-- "An address counts as written when its number is not 0"
+unfoldable pub isWritten : List ℕ → ℕ → Bool
+isWritten map a = not (eqb (numberAt map a) 0)
+
+-- the record with the number n at address a
+unfoldable pub stamped : ℕ → List ℕ → ℕ → List ℕ
+stamped n map a = set (set map (2 * a) (n / 256)) (2 * a + 1) (n % 256)
+
+-- the record with the number n at every address of a list
+unfoldable pub stamps : ℕ → List ℕ → List ℕ → List ℕ
+stamps n map [] = map
+stamps n map (a ∷ l) = stamps n (stamped n map a) l

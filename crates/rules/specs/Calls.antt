@@ -5,11 +5,12 @@ use Prim.Native.Nat.{ℕ, _*_, _/_}
 use lib.Dec.{eqb, ltb}
 use lib.ListN.{length}
 use Rattle.rules.specs.Base.{one, over}
-use Rattle.rules.specs.Refusal.{Test, _if_, Outcome, call}
-use Rattle.rules.specs.Tile.{Tile, bankSize, mapSize, laneMapSize, loadFieldsOutside, tileOutside, modeOutside, laneOutside}
+use Rattle.rules.specs.Refusal.{Test, _if_, Outcome, call, callOr}
+use Rattle.rules.specs.Tile.{Tile, bankSize, mapSize, writtenSize, laneMapSize}
+use Rattle.rules.specs.Tile.{loadFieldsOutside, tileOutside, modeOutside, laneOutside}
 use Rattle.rules.specs.Texdec.{accepted, stepKnows}
 use Rattle.rules.specs.Sampling.{flag, extentWidth, extentHeight, lookupTexels}
-use Rattle.rules.specs.Load.{Store, loadTile, blockStores, tileStores, tlutStores, stored, written, madeUp}
+use Rattle.rules.specs.Load.{Store, loadTile, blockStores, tileStores, tlutStores, stored, written, following, madeUp}
 use Rattle.rules.specs.Reading.{Reading, given, trail, encoded}
 use Rattle.rules.specs.Picture.{plain, lookup}
 use Rattle.rules.specs.Reach.{reachMap, hasLoad, laneMap}
@@ -17,7 +18,8 @@ use Rattle.rules.specs.Key.{key, keptCount}
 
 -- The tests, by their numbers.
 
--- "a lent bank or key is not 4,096 bytes, a written or reach map not 512, or a lane map not 32"
+-- "a lent bank or key is not 4,096 bytes, a .. reach map not 512, or a lane map not 32"; the written map "becomes 8,192 bytes ..; refusal
+-- 1 now tests that length"
 abbrev pub notBytes : ℕ → List ℕ → Bool
 notBytes n lent = not (eqb (length lent) n)
 
@@ -57,32 +59,45 @@ unknownPair t mode = 9 if not (stepKnows mode (t .fmt) (t .siz))
 
 -- the tests of a lent bank and written map stand before all others of the calls that take both
 abbrev pub lentTests : List ℕ → List ℕ → List Test → List Test
-lentTests bank map l = (1 if notBytes bankSize bank) ∷ (1 if notBytes mapSize map) ∷ l
+lentTests bank map l = (1 if notBytes bankSize bank) ∷ (1 if notBytes writtenSize map) ∷ l
 
--- Loads: bank and written map are lent. The count of stores is answered, and how many of their bytes were made up. The tests of a
--- load's numbers, for a source of `size` bytes, stand before those that a caller may add.
+-- "18, the 65,536th load (any number passed above 65,534), tested last"
+abbrev pub numberSpent : ℕ → Bool
+numberSpent last = ltb 65534 last
+
+-- Loads: bank and written map are lent. The tests of a load's numbers, for a source of `size` bytes, stand before those that a caller
+-- may add.
 abbrev pub numberTests : ℕ → Tile → ℕ → Bool → List Test → List Test
 numberTests size t image outside l = (2 if loadFieldsOutside t) ∷ (4 if sourceOutside size image) ∷ (4 if outside) ∷ l
 
-abbrev pub loadTests : List ℕ → List ℕ → List ℕ → Tile → ℕ → Bool → List Test
-loadTests bank map src t image outside = lentTests bank map (numberTests (length src) t image outside [])
+abbrev pub loadTests : List ℕ → List ℕ → List ℕ → Tile → ℕ → Bool → ℕ → List Test
+loadTests bank map src t image outside last =
+    lentTests bank map (numberTests (length src) t image outside ((18 if numberSpent last) ∷ []))
 
-abbrev pub loaded : List Test → List Store → List ℕ → List ℕ → List ℕ → Outcome
-loaded tests l bank map src =
-    call tests (length l ∷ madeUp (length src) l ∷ []) (stored src l bank ∷ written l map ∷ []) (bank ∷ map ∷ [])
+-- The count of stores is answered, how many of their bytes were made up, and the load's number. "A load that stores nothing still takes a
+-- number; a refused one takes none and hands back the number passed." `last` is "the last number given".
+abbrev pub loaded : List Test → List Store → List ℕ → List ℕ → List ℕ → ℕ → Outcome
+loaded tests l bank map src last =
+    callOr tests
+    (length l ∷ madeUp (length src) l ∷ following last ∷ [])
+    (0 ∷ 0 ∷ last ∷ [])
+    (stored src l bank ∷ written (following last) l map ∷ [])
+    (bank ∷ map ∷ [])
 
-unfoldable pub blockCall : List ℕ → List ℕ → List ℕ → Tile → ℕ → ℕ → ℕ → Outcome
-blockCall bank map src t image dxt words =
-    loaded (loadTests bank map src t image (blockOutside dxt words)) (blockStores (loadTile t) image dxt words) bank map src
+unfoldable pub blockCall : List ℕ → List ℕ → List ℕ → Tile → ℕ → ℕ → ℕ → ℕ → Outcome
+blockCall bank map src t image dxt words last =
+    loaded (loadTests bank map src t image (blockOutside dxt words) last)
+    (blockStores (loadTile t) image dxt words) bank map src last
 
-unfoldable pub tileCall : List ℕ → List ℕ → List ℕ → Tile → ℕ → ℕ → ℕ → ℕ → Outcome
-tileCall bank map src t image rows words stride =
-    loaded (loadTests bank map src t image (tileLoadOutside rows words stride))
-    (tileStores (loadTile t) image rows words stride) bank map src
+unfoldable pub tileCall : List ℕ → List ℕ → List ℕ → Tile → ℕ → ℕ → ℕ → ℕ → ℕ → Outcome
+tileCall bank map src t image rows words stride last =
+    loaded (loadTests bank map src t image (tileLoadOutside rows words stride) last)
+    (tileStores (loadTile t) image rows words stride) bank map src last
 
-unfoldable pub tlutCall : List ℕ → List ℕ → List ℕ → Tile → ℕ → ℕ → ℕ → ℕ → Outcome
-tlutCall bank map src t image count rows stride =
-    loaded (loadTests bank map src t image (tlutOutside count rows stride)) (tlutStores (loadTile t) image count rows stride) bank map src
+unfoldable pub tlutCall : List ℕ → List ℕ → List ℕ → Tile → ℕ → ℕ → ℕ → ℕ → ℕ → Outcome
+tlutCall bank map src t image count rows stride last =
+    loaded (loadTests bank map src t image (tlutOutside count rows stride) last)
+    (tlutStores (loadTile t) image count rows stride) bank map src last
 
 -- The sampling record: flag and allocation extent.
 abbrev pub samplingTests : Tile → ℕ → List Test
@@ -93,14 +108,14 @@ samplingCall t mode =
     call (samplingTests t mode) (one (flag t mode) ∷ extentWidth t mode ∷ extentHeight t mode ∷ []) [] []
 
 -- Reach, has-load and the lane check.
-abbrev pub mapTests : List ℕ → Tile → ℕ → List Test
-mapTests map t mode = (1 if notBytes mapSize map) ∷ samplingTests t mode
+abbrev pub mapTests : ℕ → List ℕ → Tile → ℕ → List Test
+mapTests size map t mode = (1 if notBytes size map) ∷ samplingTests t mode
 
 unfoldable pub reachCall : Tile → ℕ → List ℕ → Outcome
-reachCall t mode map = call (mapTests map t mode) [] (reachMap t mode ∷ []) (map ∷ [])
+reachCall t mode map = call (mapTests mapSize map t mode) [] (reachMap t mode ∷ []) (map ∷ [])
 
 unfoldable pub hasLoadCall : Tile → ℕ → List ℕ → Outcome
-hasLoadCall t mode map = call (mapTests map t mode) (one (hasLoad t mode map) ∷ []) [] []
+hasLoadCall t mode map = call (mapTests writtenSize map t mode) (one (hasLoad t mode map) ∷ []) [] []
 
 abbrev pub laneTests : List ℕ → List ℕ → List Test
 laneTests bank map = (1 if notBytes bankSize bank) ∷ (1 if notBytes laneMapSize map) ∷ []

@@ -5,7 +5,7 @@ use Prim.Native.Nat.{ℕ, _+_, _-_, _*_, _/_, _%_, _^_}
 use lib.Bits.{bitAnd, bitXor}
 use lib.Dec.{eqb, ltb, leb}
 use lib.ListN.{getD, set}
-use Rattle.rules.specs.Base.{tab, concat, howMany, marks}
+use Rattle.rules.specs.Base.{tab, concat, howMany, stamps}
 use Rattle.rules.specs.Tile.{Tile}
 use Rattle.rules.specs.Sampling.{isRgba32}
 
@@ -161,12 +161,17 @@ unfoldable pub stored : List ℕ → List Store → List ℕ → List ℕ
 stored src [] bank = bank
 stored src (s ∷ l) bank = stored src l (set bank (s .at) (getD src (s .from) 0))
 
--- "Each store marks its address."
+-- the addresses that the stores go to
 abbrev pub addresses : List Store → List ℕ
 addresses l = map (λ s. s .at) l
 
-unfoldable pub written : List Store → List ℕ → List ℕ
-written l m = marks m (addresses l)
+-- "Each store marks its address", with "the number of the last load that stored there": the written record after a load whose number is n
+unfoldable pub written : ℕ → List Store → List ℕ → List ℕ
+written n l m = stamps n m (addresses l)
+
+-- the number of the load after the one whose number is given: "counted from 1 since the fresh state"
+abbrev pub following : ℕ → ℕ
+following last = last + 1
 
 -- "the number of stores in the rule's list whose source place is at or past the length. A replicated byte counts each time it is
 -- stored."

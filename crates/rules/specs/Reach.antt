@@ -4,7 +4,7 @@ use mathlib.Core.List.{List, [], _∷_}
 use Prim.Native.Nat.{ℕ, zero, suc, _+_, _-_, _*_, _/_, _%_, _^_, min, max}
 use lib.Dec.{eqb, ltb, leb}
 use lib.ListN.{getD, replicate}
-use Rattle.rules.specs.Base.{odd, tab, concat, marks, isMarked, any}
+use Rattle.rules.specs.Base.{odd, tab, concat, marks, isWritten, any}
 use Rattle.rules.specs.Tile.{Tile, laneMapSize, freshMap}
 use Rattle.rules.specs.Texdec.{tlut}
 use Rattle.rules.specs.Sampling.{flag, repeats, isRgba32}
@@ -75,7 +75,7 @@ reachMap t mode = marks freshMap (reach t mode)
 
 -- "A tile has a load if reach and the written map meet."
 unfoldable pub hasLoad : Tile → ℕ → List ℕ → Bool
-hasLoad t mode map = any (isMarked map) (reach t mode)
+hasLoad t mode map = any (isWritten map) (reach t mode)
 
 -- "Its bit is set exactly when its second, third or fourth pair of bytes differs from its first."
 abbrev pub slotByte : List ℕ → ℕ → ℕ → ℕ

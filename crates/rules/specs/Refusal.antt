@@ -28,11 +28,16 @@ abbrev pub zeros : List ℕ → List ℕ
 zeros [] = []
 zeros (n ∷ l) = 0 ∷ zeros l
 
--- "A refusal returns its number, counts 0 and a "no" where there is a yes or no; no lent memory changes."
-unfoldable pub settle : ℕ → List ℕ → List (List ℕ) → List (List ℕ) → Outcome
-settle zero numbers left lent = record { refusal = 0; numbers = numbers; buffers = left }
-settle (suc n) numbers left lent = record { refusal = suc n; numbers = zeros numbers; buffers = lent }
+-- "A refusal returns its number ..; no lent memory changes." `instead` is what a refusal answers in place of the call's numbers.
+unfoldable pub settle : ℕ → List ℕ → List ℕ → List (List ℕ) → List (List ℕ) → Outcome
+settle zero numbers instead left lent = record { refusal = 0; numbers = numbers; buffers = left }
+settle (suc n) numbers instead left lent = record { refusal = suc n; numbers = instead; buffers = lent }
 
--- a call: its tests; the numbers that it answers and the buffers that it leaves if no test fails; the buffers as lent
+-- a call: its tests; the numbers that it answers if no test fails, and if one does; the buffers that it leaves if none fails; the
+-- buffers as lent
+unfoldable pub callOr : List Test → List ℕ → List ℕ → List (List ℕ) → List (List ℕ) → Outcome
+callOr tests numbers instead left lent = settle (first tests) numbers instead left lent
+
+-- "counts 0 and a "no" where there is a yes or no": a call that was refused answers zeros
 unfoldable pub call : List Test → List ℕ → List (List ℕ) → List (List ℕ) → Outcome
-call tests numbers left lent = settle (first tests) numbers left lent
+call tests numbers left lent = settle (first tests) numbers (zeros numbers) left lent

@@ -1,16 +1,16 @@
--- The replay of a capture's loads, document 02's item 1: records of 48 bytes in, a line each out, over a bank and a written map that
--- are carried from record to record.
+-- The replay of a capture's loads, document 02's item 1: records of 48 bytes in, a line each out, over a bank, a written map and the
+-- last load's number, which are carried from record to record.
 use mathlib.Core.Bool.{Bool, cond, not, _&&_, _||_}
 use mathlib.Core.List.{List, [], _∷_, _++_}
 use Prim.Native.Nat.{ℕ, suc, _+_, _-_, _*_, _/_}
 use lib.Dec.{eqb, ltb}
 use lib.ListN.{length, getD, take, drop}
 use Rattle.rules.specs.Base.{tab, recordOf, over}
-use Rattle.rules.specs.Tile.{Tile, freshBank, freshMap}
-use Rattle.rules.specs.Load.{Store, loadTile, blockStores, tileStores, tlutStores, stored, written}
+use Rattle.rules.specs.Tile.{Tile, freshBank, freshWritten}
+use Rattle.rules.specs.Load.{Store, loadTile, blockStores, tileStores, tlutStores, stored, written, following}
 use Rattle.rules.specs.Key.{keptCount}
-use Rattle.rules.specs.Refusal.{Test, _if_, Outcome, first, call}
-use Rattle.rules.specs.Calls.{lentTests, numberTests, pairTests, unknownPair, blockOutside, tileLoadOutside, tlutOutside}
+use Rattle.rules.specs.Refusal.{Test, _if_, Outcome, first, callOr}
+use Rattle.rules.specs.Calls.{lentTests, numberSpent, numberTests, pairTests, unknownPair, blockOutside, tileLoadOutside, tlutOutside}
 use Rattle.rules.specs.Lister.{byte, two, recordTile, recordMode, lineText}
 
 -- "records of 48 bytes without a header"
@@ -96,29 +96,53 @@ recordTests end r =
     (pairTests (tileIn r) (modeIn r) (laneIn r) (unknownPair (tileIn r) (modeIn r) ∷ []))
     (numberTests (sizeIn r) (tileIn r) (imageIn r) (outsideIn r) (beyond end r ∷ []))
 
--- what is carried from record to record; "The bank starts fresh"
+-- what is carried from record to record; "The bank starts fresh", and loads are "counted from 1 since the fresh state"
 pub record Carried : Type 0 where
   pub bank : List ℕ
   pub map : List ℕ
+  pub last : ℕ
 
-abbrev pub carried : List ℕ → List ℕ → Carried
-carried bank map = record { bank = bank; map = map }
+abbrev pub carried : List ℕ → List ℕ → ℕ → Carried
+carried bank map last = record { bank = bank; map = map; last = last }
 
 abbrev pub fresh : Carried
-fresh = carried freshBank freshMap
+fresh = carried freshBank freshWritten 0
+
+-- "18, the 65,536th load (any number passed above 65,534), tested last"; a key takes no number
+abbrev pub spent : ℕ → List ℕ → Test
+spent last r = 18 if (not (asksKey r) && numberSpent last)
 
 -- "the count of its stores, or for a key of its kept bytes"
 unfoldable pub countOf : List ℕ → List ℕ → ℕ
 countOf r bank = cond (asksKey r) (keptCount (tileIn r) (modeIn r) (laneIn r) bank) (length (storesIn r))
 
--- what a record leaves: a key changes nothing, a load stores and marks
+-- what a record leaves: a key changes nothing, a load stores and leaves its number
 unfoldable pub left : List ℕ → List ℕ → Carried → List (List ℕ)
 left src r m =
-    cond (asksKey r) (m .bank ∷ m .map ∷ []) (stored src (storesIn r) (m .bank) ∷ written (storesIn r) (m .map) ∷ [])
+    cond (asksKey r) (m .bank ∷ m .map ∷ [])
+    (stored src (storesIn r) (m .bank) ∷ written (following (m .last)) (storesIn r) (m .map) ∷ [])
+
+-- the last number after it: "A load that stores nothing still takes a number"
+abbrev pub lastOf : List ℕ → ℕ → ℕ
+lastOf r last = cond (asksKey r) last (following last)
+
+-- what a record's tests settle, over a source and what is carried: its count and the last number are answered, and a refusal "hands
+-- back the number passed"
+unfoldable pub tested : List Test → List ℕ → List ℕ → Carried → Outcome
+tested tests src r m =
+    callOr tests
+    (countOf r (m .bank) ∷ lastOf r (m .last) ∷ [])
+    (0 ∷ m .last ∷ [])
+    (left src r m)
+    (m .bank ∷ m .map ∷ [])
+
+-- its own tests, and the number's last
+abbrev pub stepTests : ℕ → List ℕ → ℕ → List Test
+stepTests end r last = recordTests end r ++ (spent last r ∷ [])
 
 -- a record's outcome, where the companion file has `end` bytes and `src` is the part of it that the record names
 unfoldable pub outcome : ℕ → List ℕ → List ℕ → Carried → Outcome
-outcome end src r m = call (recordTests end r) (countOf r (m .bank) ∷ []) (left src r m) (m .bank ∷ m .map ∷ [])
+outcome end src r m = tested (stepTests end r (m .last)) src r m
 
 -- that part: exactly the stated bytes
 abbrev pub partOf : List ℕ → List ℕ → List ℕ
@@ -130,10 +154,10 @@ inFile file r m = outcome (length file) (partOf r (drop (offsetIn r) file)) r m
 
 -- "Each record prints its refusal and then the count": its line, and what it carries on
 abbrev pub lineIn : Outcome → List ℕ
-lineIn o = o .refusal ∷ o .numbers
+lineIn o = o .refusal ∷ getD (o .numbers) 0 0 ∷ []
 
 abbrev pub onward : Outcome → Carried
-onward o = carried (getD (o .buffers) 0 []) (getD (o .buffers) 1 [])
+onward o = carried (getD (o .buffers) 0 []) (getD (o .buffers) 1 []) (getD (o .numbers) 1 0)
 
 -- the lines of records one after the other, and the state after them, where `step` is a record's outcome
 unfoldable pub replayed : (List ℕ → Carried → Outcome) → List (List ℕ) → Carried → Carried
@@ -168,19 +192,15 @@ replayText file input = texts (lines (inFile file) (recordsIn input) fresh)
 abbrev pub shortPart : List ℕ → List ℕ → Test
 shortPart part r = 11 if (not (asksKey r) && ltb (length part) (sizeIn r))
 
--- the record's own tests, and the part's last
-abbrev pub ownTests : ℕ → List ℕ → List ℕ → List Test
-ownTests end r part = recordTests end r ++ (shortPart part r ∷ [])
+-- the record's own tests, then the part's, and the number's last
+abbrev pub ownTests : ℕ → List ℕ → List ℕ → ℕ → List Test
+ownTests end r part last = recordTests end r ++ (shortPart part r ∷ spent last r ∷ [])
 
-abbrev pub replayTests : List ℕ → List ℕ → List ℕ → ℕ → List ℕ → List Test
-replayTests bank map r end part = lentTests bank map (ownTests end r part)
+abbrev pub replayTests : List ℕ → List ℕ → List ℕ → ℕ → List ℕ → ℕ → List Test
+replayTests bank map r end part last = lentTests bank map (ownTests end r part last)
 
-unfoldable pub replayCall : List ℕ → List ℕ → List ℕ → ℕ → List ℕ → Outcome
-replayCall bank map r end part =
-    call (replayTests bank map r end part)
-    (countOf r bank ∷ [])
-    (left (partOf r part) r (carried bank map))
-    (bank ∷ map ∷ [])
+unfoldable pub replayCall : List ℕ → List ℕ → List ℕ → ℕ → List ℕ → ℕ → Outcome
+replayCall bank map r end part last = tested (replayTests bank map r end part last) (partOf r part) r (carried bank map last)
 
 -- A run of records, with a piece of the companion file at hand: the file's length, where the piece starts, and its bytes.
 pub record Piece : Type 0 where
@@ -191,7 +211,7 @@ pub record Piece : Type 0 where
 abbrev pub piece : ℕ → ℕ → List ℕ → Piece
 piece end start bytes = record { end = end; start = start; bytes = bytes }
 
--- the record is a load that no test refuses: it takes its part of the file
+-- the record is a load that none of its own tests refuses: it names a part of the file, whether or not a number is left for it
 unfoldable pub takesPart : ℕ → List ℕ → Bool
 takesPart end r = eqb (first (recordTests end r)) 0 && not (asksKey r)
 
@@ -224,15 +244,16 @@ shortText input out = 6 if ltb (length out) (replayRoom * recordCount input)
 abbrev pub runTests : List ℕ → List ℕ → List ℕ → List ℕ → List Test
 runTests bank map input out = lentTests bank map (shortText input out ∷ [])
 
--- The run replays the records that are ready. Their number and the length of their text are answered; bank and map are left as they
--- stand then, and the text at the front of `out`.
-unfoldable pub runCall : List ℕ → List ℕ → List ℕ → Piece → List ℕ → Outcome
-runCall bank map input p out =
+-- The run replays the records that are ready. How many they are, the length of their text and the last load's number are answered; bank
+-- and map are left as they stand then, and the text at the front of `out`. A refusal "hands back the number passed".
+unfoldable pub runCall : List ℕ → List ℕ → List ℕ → Piece → List ℕ → ℕ → Outcome
+runCall bank map input p out last =
     let n : ℕ = ready p (recordsIn input) in
     let l : List (List ℕ) = firstRecords input n in
-    let text : List ℕ = texts (lines (inPiece p) l (carried bank map)) in
-    let m : Carried = replayed (inPiece p) l (carried bank map) in
-    call (runTests bank map input out)
-    (n ∷ length text ∷ [])
+    let text : List ℕ = texts (lines (inPiece p) l (carried bank map last)) in
+    let m : Carried = replayed (inPiece p) l (carried bank map last) in
+    callOr (runTests bank map input out)
+    (n ∷ length text ∷ m .last ∷ [])
+    (0 ∷ 0 ∷ last ∷ [])
     (m .bank ∷ m .map ∷ over text out ∷ [])
     (bank ∷ map ∷ out ∷ [])

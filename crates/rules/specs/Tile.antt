@@ -22,10 +22,15 @@ mask16 = 2047
 abbrev pub bankWords : ℕ
 bankWords = 512
 
--- the bytes of a written or reach map, and of a lane map
+-- the bytes of a reach map
 abbrev pub mapSize : ℕ
 mapSize = 512
 
+-- "The exported written map becomes 8,192 bytes, two an address"
+abbrev pub writtenSize : ℕ
+writtenSize = 8192
+
+-- the bytes of a lane map
 abbrev pub laneMapSize : ℕ
 laneMapSize = 32
 
@@ -33,6 +38,10 @@ laneMapSize = 32
 abbrev pub freshBank : List ℕ
 freshBank = replicate bankSize 0
 
+abbrev pub freshWritten : List ℕ
+freshWritten = replicate writtenSize 0
+
+-- a reach map with no address marked
 abbrev pub freshMap : List ℕ
 freshMap = replicate mapSize 0
 

@@ -1,21 +1,23 @@
--- "Banks and texels worked by hand": P1 to P12 in one table, with the fourth slip, the lister's example, a wall that repeats, a replay and
--- what loads make up beside them. "Fields not named are 0, the bank is fresh." `Rattle.rules.proofs.Worked` proves every row.
+-- "Banks and texels worked by hand": P1 to P12 in one table, with the fourth slip, the lister's example, a wall that repeats, a replay,
+-- what loads make up and their numbers beside them. "Fields not named are 0, the bank is fresh." `Rattle.rules.proofs.Worked` proves
+-- every row.
 use mathlib.Core.Bool.{Bool, true}
 use mathlib.Core.List.{List, [], _∷_, _++_, map}
 use Prim.Native.Nat.{ℕ, _+_}
-use lib.ListN.{set, replicate, take, drop}
-use Rattle.rules.specs.Base.{one, tab, concat, all, same}
+use lib.ListN.{getD, set, replicate, take, drop}
+use Rattle.rules.specs.Base.{one, tab, concat, all, same, numberAt}
 use Rattle.rules.specs.Reading.{trail}
-use Rattle.rules.specs.Tile.{Tile, tileFrom, bankSize, mapSize}
+use Rattle.rules.specs.Tile.{Tile, tileFrom, bankSize, freshWritten}
+use Rattle.rules.specs.Refusal.{Outcome}
 use Rattle.rules.specs.Texdec.{rgba16Texel, ia4Texel, ia8Texel}
 use Rattle.rules.specs.Sampling.{flag}
 use Rattle.rules.specs.Load.{Store, loadTile, stored, blockStores, tlutStores, madeUp}
-use Rattle.rules.specs.Refusal.{Outcome}
+use Rattle.rules.specs.Reach.{hasLoad}
 use Rattle.rules.specs.Calls.{blockCall}
 use Rattle.rules.specs.Picture.{picture, texel}
 use Rattle.rules.specs.Key.{key, keptCount}
 use Rattle.rules.specs.Lister.{listing}
-use Rattle.rules.specs.Replay.{fresh as start, inFile, replayed, lines, recordsIn, replayText}
+use Rattle.rules.specs.Replay.{fresh as start, carried, inFile, replayed, lines, recordsIn, replayText}
 
 -- two lists of numbers that have to be the same
 pub record Case : Type 0 where
@@ -153,9 +155,23 @@ p6MadeUp size = madeUp size (blockStores (loadTile (tile 0 3 0 0 0 0)) 3 0 1)
 abbrev p8MadeUp : ℕ → ℕ → ℕ
 p8MadeUp image size = madeUp size (tlutStores (loadTile (tile 0 0 0 256 0 0)) image 1 1 0)
 
--- the numbers that a block load of one word answers whose source has two bytes, one of them zero
-abbrev cutBlock : ℕ → List ℕ
-cutBlock image = blockCall fresh (replicate mapSize 0) (0 ∷ 2 ∷ []) (tile 0 2 0 0 0 0) image 0 1 .numbers
+-- a block load of so many words whose source has two bytes, one of them zero, after a load of the number `last`
+abbrev cutBlock : ℕ → ℕ → ℕ → Outcome
+cutBlock image words last = blockCall fresh freshWritten (0 ∷ 2 ∷ []) (tile 0 2 0 0 0 0) image 0 words last
+
+-- Document 02's item 7. What it answers, and the first bytes of the record that it leaves: its refusal and numbers, and those of
+-- addresses 0, 7 and 8.
+abbrev answers : Outcome → List ℕ
+answers o = o .refusal ∷ o .numbers
+
+abbrev recordBytes : Outcome → List ℕ
+recordBytes o =
+    let m = getD (o .buffers) 1 [] in
+    bytesAt 0 2 m ++ bytesAt 14 4 m
+
+-- whether a tile of one texel at the bank's start has a load, by a record with these four bytes and no others
+abbrev loadedBy : List ℕ → ℕ
+loadedBy l = one (hasLoad (tile 4 1 0 0 1 1) 0 (l ++ replicate 8188 0))
 
 unfoldable pub table : List Case
 table =
@@ -202,6 +218,11 @@ table =
     ∷ (concat (lines (inFile companion) (recordsIn replayInput) start)
     gives 10 ∷ 0 ∷ 0 ∷ 4 ∷ 4 ∷ 0 ∷ 11 ∷ 0 ∷ 0 ∷ 8 ∷ 0 ∷ 6 ∷ 8 ∷ 0 ∷ [])
     ∷ (bytesAt 0 8 (replayed (inFile companion) (recordsIn replayInput) start .bank) gives 2 ∷ 3 ∷ 0 ∷ 0 ∷ 0 ∷ 0 ∷ 0 ∷ 0 ∷ [])
+    -- its one load has the number 1
+    ∷ (replayed (inFile companion) (recordsIn replayInput) start .last ∷ [] gives 1 ∷ [])
+    -- after 65,535 loads it is refused, "18 0", and the keys go on
+    ∷ (concat (lines (inFile companion) (recordsIn replayInput) (carried fresh freshWritten 65535))
+    gives 10 ∷ 0 ∷ 0 ∷ 4 ∷ 4 ∷ 0 ∷ 11 ∷ 0 ∷ 18 ∷ 0 ∷ 0 ∷ 4 ∷ 8 ∷ 0 ∷ [])
     -- a torn tail alone prints "8 0"
     ∷ (replayText companion (0 ∷ []) gives 56 ∷ 32 ∷ 48 ∷ 10 ∷ [])
     -- P5's block and P6's, of sources that end before, at and after each one's last byte
@@ -210,9 +231,25 @@ table =
     -- P8's pair, each byte of it stored four times, by the hardware's load and as a row of entries
     ∷ (map (p8MadeUp 2) (0 ∷ 1 ∷ 2 ∷ []) gives 8 ∷ 4 ∷ 0 ∷ [])
     ∷ (map (p8MadeUp 0) (0 ∷ 1 ∷ 2 ∷ []) gives 8 ∷ 4 ∷ 0 ∷ [])
-    -- the call answers both counts, and zeros where it refuses an image size of 4
-    ∷ (cutBlock 2 gives 8 ∷ 6 ∷ [])
-    ∷ (cutBlock 4 gives 0 ∷ 0 ∷ [])
+    -- the call answers both counts and its number; where it refuses an image size of 4, zeros and the number passed
+    ∷ (answers (cutBlock 2 1 0) gives 0 ∷ 8 ∷ 6 ∷ 1 ∷ [])
+    ∷ (answers (cutBlock 4 1 0) gives 4 ∷ 0 ∷ 0 ∷ 0 ∷ [])
+    -- the number that follows, at the first and the last address of the word and none after it
+    ∷ (concat (map (λ last. recordBytes (cutBlock 2 1 last)) (0 ∷ 1 ∷ 255 ∷ 256 ∷ []))
+    gives 0 ∷ 1 ∷ 0 ∷ 1 ∷ 0 ∷ 0 ∷ 0 ∷ 2 ∷ 0 ∷ 2 ∷ 0 ∷ 0 ∷ 1 ∷ 0 ∷ 1 ∷ 0 ∷ 0 ∷ 0 ∷ 1 ∷ 1 ∷ 1 ∷ 1 ∷ 0 ∷ 0 ∷ [])
+    ∷ (concat (map (λ last. recordBytes (cutBlock 2 1 last)) (65533 ∷ 65534 ∷ 65535 ∷ []))
+    gives 255 ∷ 254 ∷ 255 ∷ 254 ∷ 0 ∷ 0 ∷ 255 ∷ 255 ∷ 255 ∷ 255 ∷ 0 ∷ 0 ∷ 0 ∷ 0 ∷ 0 ∷ 0 ∷ 0 ∷ 0 ∷ [])
+    ∷ (answers (cutBlock 2 1 65533) gives 0 ∷ 8 ∷ 6 ∷ 65534 ∷ [])
+    ∷ (answers (cutBlock 2 1 65534) gives 0 ∷ 8 ∷ 6 ∷ 65535 ∷ [])
+    ∷ (answers (cutBlock 2 1 65535) gives 18 ∷ 0 ∷ 0 ∷ 65535 ∷ [])
+    -- 4 is tested before 18
+    ∷ (answers (cutBlock 4 1 65535) gives 4 ∷ 0 ∷ 0 ∷ 65535 ∷ [])
+    -- "A load that stores nothing still takes a number"
+    ∷ (answers (cutBlock 2 0 255) gives 0 ∷ 0 ∷ 0 ∷ 256 ∷ [])
+    -- "An address counts as written when its number is not 0": by either byte, and its own alone
+    ∷ (map loadedBy ((0 ∷ 0 ∷ 0 ∷ 0 ∷ []) ∷ (0 ∷ 1 ∷ 0 ∷ 0 ∷ []) ∷ (1 ∷ 0 ∷ 0 ∷ 0 ∷ []) ∷ (0 ∷ 0 ∷ 1 ∷ 1 ∷ []) ∷ [])
+    gives 0 ∷ 1 ∷ 1 ∷ 0 ∷ [])
+    ∷ (numberAt (1 ∷ 2 ∷ 3 ∷ 4 ∷ []) 1 ∷ [] gives 772 ∷ [])
     ∷ []
 
 -- the two lists of every case are the same

@@ -32,28 +32,50 @@ fn answer_is(r: &[u8], answer: Answer, first: &[u8]) -> bool {
 }
 
 // A block, tile or TLUT load.
-fn load(r: &[u8], kind: u32, bank: &mut [u8], written: &mut [u8], source: &[u8]) -> LoadAnswer {
+fn load(
+    r: &[u8],
+    kind: u32,
+    bank: &mut [u8],
+    written: &mut [u8],
+    source: &[u8],
+    last: u32,
+) -> LoadAnswer {
     let tile = record::tile(r);
     let image = record::two(r, 18);
     let a = record::two(r, 20);
     let b = record::two(r, 22);
     let c = record::two(r, 24);
     match kind {
-        1 => tmem::load::write_block_for_tile(bank, written, source, tile, image, a, b),
-        2 => tmem::load::write_tile_for_tile(bank, written, source, tile, image, a, b, c),
-        _ => tmem::load::write_tlut_for_tile(bank, written, source, tile, image, a, b, c),
+        1 => tmem::load::write_block_for_tile(bank, written, source, tile, image, a, b, last),
+        2 => tmem::load::write_tile_for_tile(bank, written, source, tile, image, a, b, c, last),
+        _ => tmem::load::write_tlut_for_tile(bank, written, source, tile, image, a, b, c, last),
     }
 }
 
+// The number of the last load after one: its own, or, where it was refused, the one before.
+fn number_after(last: u32, refusal: u32) -> u32 {
+    if refusal == 0 {
+        std::num::wrapping_add_u32(last, 1)
+    } else {
+        last
+    }
+}
+
+// The original has a map of marks. Its marked addresses have numbers here, and those that have one after the load are marked again.
 fn load_is(r: &[u8], kind: u32, source: &[u8]) -> bool {
     let mut bank = bank_of(r);
-    let mut written = [0u8; 512];
-    buffers::made(&mut written, record::four(r, 30), 1);
-    let answer = load(r, kind, &mut bank, &mut written, source);
+    let mut marks = [0u8; 512];
+    buffers::made(&mut marks, record::four(r, 30), 1);
+    let mut written = [0u8; Bank::WRITTEN_SIZE];
+    buffers::number_marked(&marks, &mut written);
+    let last = record::four(r, 30) % 65535;
+    let answer = load(r, kind, &mut bank, &mut written, source, last);
+    buffers::mark_numbered(&written, &mut marks);
     record::answered(r, answer.refusal, answer.count)
         & (answer.made_up == record::four(r, 52))
+        & (answer.number == number_after(last, answer.refusal))
         & first_is(r, &bank)
-        & second_is(r, &written)
+        & second_is(r, &marks)
 }
 
 // A load of a source of the case's length.
@@ -120,9 +142,11 @@ fn reach_case(r: &[u8]) -> bool {
 }
 
 fn has_load_case(r: &[u8]) -> bool {
-    let mut written = [0u8; 512];
-    buffers::made(&mut written, record::four(r, 30), 1);
-    buffers::poke(&mut written, record::two(r, 26), record::two(r, 28));
+    let mut marks = [0u8; 512];
+    buffers::made(&mut marks, record::four(r, 30), 1);
+    buffers::poke(&mut marks, record::two(r, 26), record::two(r, 28));
+    let mut written = [0u8; Bank::WRITTEN_SIZE];
+    buffers::number_marked(&marks, &mut written);
     let answer = reach::has_load::tile_has_load(record::tile(r), record::mode(r), &written);
     record::answered(r, answer.refusal, answer.yes)
 }

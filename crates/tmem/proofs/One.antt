@@ -6,6 +6,7 @@ use Rattle.rules.proofs.Refused.{determined}
 use Rattle.rdp.proofs.Determined.{load-determined}
 use Rattle.tmem.proofs.bank.Bank.fresh.Reads as fresh
 use Rattle.tmem.proofs.bank.Bank.entry_addr.Reads as entry-addr
+use Rattle.tmem.proofs.load.is_spent.Reads as is-spent
 use Rattle.tmem.proofs.load.load.Reads as load
 use Rattle.tmem.proofs.load.number_refusal.Reads as number-refusal
 use Rattle.tmem.proofs.load.write_block_for_tile.Reads as write-block-for-tile
@@ -24,6 +25,9 @@ load-one w a r s e f p q = load-determined _ r s _ _ p q
 
 pub number-refusal-one : (w : _) (a : _) (r s : _) (e f : _) → number-refusal.Post w a r e → number-refusal.Post w a s f → r ≡ s
 number-refusal-one w a r s e f p q = determined p q
+
+pub is-spent-one : (w : _) (a : _) (r s : _) (e f : _) → is-spent.Post w a r e → is-spent.Post w a s f → r ≡ s
+is-spent-one w a r s e f p q = determined p q
 
 pub write-block-for-tile-one : (w : _) (a : _) (r s : _) (e f : _) → write-block-for-tile.Post w a r e → write-block-for-tile.Post w a s f
     → (r ≡ s) × (now (e .0) ∷ now (e .1 .0) ∷ [] ≡ now (f .0) ∷ now (f .1 .0) ∷ [])

@@ -22,6 +22,6 @@ askedStores t image (TileLoad rows words stride) = tileStores t image rows words
 askedStores t image (Tlut count rows stride) = tlutStores t image count rows stride
 
 -- the call
-abbrev pub askedCall : List ℕ → List ℕ → List ℕ → Tile → ℕ → Asked → Outcome
-askedCall bank map src t image asked =
-    loaded (loadTests bank map src t image (askedOutside asked)) (askedStores (loadTile t) image asked) bank map src
+abbrev pub askedCall : List ℕ → List ℕ → List ℕ → Tile → ℕ → Asked → ℕ → Outcome
+askedCall bank map src t image asked last =
+    loaded (loadTests bank map src t image (askedOutside asked) last) (askedStores (loadTile t) image asked) bank map src last

@@ -2,7 +2,7 @@
 ghost use mathlib.Core.Path.{_≡_};
 ghost use mathlib.Core.Bool.{false};
 ghost use Prim.Native.Nat.{_≤_};
-ghost use Rattle.tmem.specs.Part.{loadOf, Lent, Counted};
+ghost use Rattle.tmem.specs.Part.{loadOf, memory, Lent, Counted};
 ghost use Rattle.tmem.specs.Asked.{askedOutside, askedStores};
 use crate::load_block::write_block_words;
 use crate::load_tile::write_tile_rows;
@@ -58,27 +58,48 @@ impl Asked {
         src: &[u8],
         tile: LoadTile,
         image_siz: u32,
+        number: usize,
     ) -> Tally
-        requires { ⌜ Lent (now bank) (now written) ⌝ }
+        requires { ⌜ Lent (memory (now bank) (now written)) number ⌝ }
         requires { ⌜ «image_siz» ≤ 3 ⌝ }
         requires { ⌜ askedOutside self ≡ false ⌝ }
-        ensures { λ r. ⌜ Counted (now (src .entry)) (askedStores (loadOf tile) «image_siz» self)
-            (now (bank .entry)) (now (written .entry)) (now (bank .exit)) (now (written .exit)) r ⌝ }
+        ensures { λ r. ⌜ Counted (now (src .entry)) (askedStores (loadOf tile) «image_siz» self) number
+            (memory (now (bank .entry)) (now (written .entry))) (memory (now (bank .exit)) (now (written .exit))) r ⌝ }
     {
         match self {
             Asked::Block { dxt, words } => {
-                write_block_words(bank, written, src, tile, image_siz, dxt, words)
+                write_block_words(bank, written, src, tile, image_siz, dxt, words, number)
             }
             Asked::Tile {
                 rows,
                 words,
                 stride,
-            } => write_tile_rows(bank, written, src, tile, image_siz, rows, words, stride),
+            } => write_tile_rows(
+                bank,
+                written,
+                src,
+                tile,
+                image_siz,
+                rows,
+                words,
+                stride,
+                number,
+            ),
             Asked::Tlut {
                 count,
                 rows,
                 stride,
-            } => write_tlut(bank, written, src, tile, image_siz, count, rows, stride),
+            } => write_tlut(
+                bank,
+                written,
+                src,
+                tile,
+                image_siz,
+                count,
+                rows,
+                stride,
+                number,
+            ),
         }
     }
 }

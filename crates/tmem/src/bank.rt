@@ -1,7 +1,7 @@
 // The bank by value, with its numbers as associated constants, its fresh value, and the places of its palette.
 ghost use mathlib.Core.Path.{_≡_};
 ghost use Rattle.rules.specs.Picture.{entryAt};
-ghost use Rattle.rules.specs.Tile.{bankSize, paletteBase, mask8, mask16, freshBank};
+ghost use Rattle.rules.specs.Tile.{bankSize, writtenSize, paletteBase, mask8, mask16, freshBank};
 use rdp::units::ByteAddr;
 
 // Texture memory.
@@ -12,6 +12,9 @@ pub struct Bank {
 impl Bank {
     // The bytes of a bank.
     pub const SIZE: usize = 4096;
+
+    // The bytes of the written map: two for each byte of the bank.
+    pub const WRITTEN_SIZE: usize = 8192;
 
     // The byte at which the palette starts.
     pub const PALETTE_BASE: usize = 0x800;
@@ -25,6 +28,7 @@ impl Bank {
     // The sizes are the rules' numbers.
     pub(crate) fn numbers()
         ensures { λ _. do ⌜ (← ⟦Bank::SIZE⟧ .entry) ≡ bankSize ⌝ }
+        ensures { λ _. do ⌜ (← ⟦Bank::WRITTEN_SIZE⟧ .entry) ≡ writtenSize ⌝ }
         ensures { λ _. do ⌜ (← ⟦Bank::PALETTE_BASE⟧ .entry) ≡ paletteBase ⌝ }
     {}
 

@@ -4,7 +4,7 @@ ghost use Prim.Native.Nat.{_+_, _*_, _%_, _<_, _≤_};
 ghost use Rattle.rules.specs.Base.{tab};
 ghost use Rattle.rules.specs.Tile.{bankSize};
 ghost use Rattle.rules.specs.Load.{store, entryRow, rowStores};
-ghost use Rattle.tmem.specs.Part.{loadOf, Lent, Counted};
+ghost use Rattle.tmem.specs.Part.{loadOf, memory, Lent, Counted};
 use crate::bank::Bank;
 use crate::place::LoadTile;
 use crate::source::source_word;
@@ -37,17 +37,18 @@ fn write_tlut_entry(
     src: &[u8],
     at: ByteAddr,
     source: usize,
+    number: usize,
 ) -> Tally
-    requires { ⌜ Lent (now bank) (now written) ⌝ }
+    requires { ⌜ Lent (memory (now bank) (now written)) number ⌝ }
     requires { ⌜ (at .0 + 8 ≤ bankSize) × (at .0 % 2 ≡ 0) ⌝ }
     requires { ⌜ source < 1024 * 65536 ⌝ }
-    ensures { λ r. ⌜ Counted (now (src .entry)) (tab 8 (λ k. store (at .0 + k) (source + k % 2)))
-        (now (bank .entry)) (now (written .entry)) (now (bank .exit)) (now (written .exit)) r ⌝ }
+    ensures { λ r. ⌜ Counted (now (src .entry)) (tab 8 (λ k. store (at .0 + k) (source + k % 2))) number
+        (memory (now (bank .entry)) (now (written .entry))) (memory (now (bank .exit)) (now (written .exit))) r ⌝ }
 {
     let word = source_word(src, source, true);
     for k in 0..4 {
         let to = ByteAddr(at.0 + 2 * k);
-        store_pair(bank, written, word.bytes, to, 2 * k, 2 * k + 1);
+        store_pair(bank, written, word.bytes, to, 2 * k, 2 * k + 1, number);
     }
     Tally {
         count: 8,
@@ -64,19 +65,20 @@ fn write_tlut_row(
     count: usize,
     stride: usize,
     row: usize,
+    number: usize,
 ) -> Tally
-    requires { ⌜ Lent (now bank) (now written) ⌝ }
+    requires { ⌜ Lent (memory (now bank) (now written)) number ⌝ }
     requires { ⌜ count ≤ 1024 ⌝ }
     requires { ⌜ stride ≤ 65535 ⌝ }
     requires { ⌜ row < 1024 ⌝ }
-    ensures { λ r. ⌜ Counted (now (src .entry)) (entryRow (loadOf tile) count stride row)
-        (now (bank .entry)) (now (written .entry)) (now (bank .exit)) (now (written .exit)) r ⌝ }
+    ensures { λ r. ⌜ Counted (now (src .entry)) (entryRow (loadOf tile) count stride row) number
+        (memory (now (bank .entry)) (now (written .entry))) (memory (now (bank .exit)) (now (written .exit))) r ⌝ }
 {
     let mut tally = Tally::none();
     for i in 0..count {
         let at = entry_addr(tile, row, i);
         let source = row * stride + 2 * i;
-        let more = write_tlut_entry(bank, written, src, at, source);
+        let more = write_tlut_entry(bank, written, src, at, source, number);
         tally = tally.plus(more);
     }
     tally
@@ -91,17 +93,18 @@ pub(crate) fn write_tlut_rows(
     count: usize,
     rows: usize,
     stride: usize,
+    number: usize,
 ) -> Tally
-    requires { ⌜ Lent (now bank) (now written) ⌝ }
+    requires { ⌜ Lent (memory (now bank) (now written)) number ⌝ }
     requires { ⌜ count ≤ 1024 ⌝ }
     requires { ⌜ rows ≤ 1024 ⌝ }
     requires { ⌜ stride ≤ 65535 ⌝ }
-    ensures { λ r. ⌜ Counted (now (src .entry)) (rowStores (loadOf tile) count rows stride)
-        (now (bank .entry)) (now (written .entry)) (now (bank .exit)) (now (written .exit)) r ⌝ }
+    ensures { λ r. ⌜ Counted (now (src .entry)) (rowStores (loadOf tile) count rows stride) number
+        (memory (now (bank .entry)) (now (written .entry))) (memory (now (bank .exit)) (now (written .exit))) r ⌝ }
 {
     let mut tally = Tally::none();
     for row in 0..rows {
-        let more = write_tlut_row(bank, written, src, tile, count, stride, row);
+        let more = write_tlut_row(bank, written, src, tile, count, stride, row, number);
         tally = tally.plus(more);
     }
     tally

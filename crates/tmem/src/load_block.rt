@@ -1,7 +1,7 @@
 // A block load: words one after the other, whose row advances by dxt.
 ghost use Prim.Native.Nat.{_≤_};
 ghost use Rattle.rules.specs.Load.{blockStores};
-ghost use Rattle.tmem.specs.Part.{loadOf, Lent, Counted};
+ghost use Rattle.tmem.specs.Part.{loadOf, memory, Lent, Counted};
 use crate::place::LoadTile;
 use crate::place::image_tile;
 use crate::tally::Tally;
@@ -17,15 +17,16 @@ pub(crate) fn write_block_words(
     image_siz: u32,
     dxt: usize,
     words: usize,
+    number: usize,
 ) -> Tally
-    requires { ⌜ Lent (now bank) (now written) ⌝ }
+    requires { ⌜ Lent (memory (now bank) (now written)) number ⌝ }
     requires { ⌜ «image_siz» ≤ 3 ⌝ }
     requires { ⌜ dxt ≤ 4095 ⌝ }
     requires { ⌜ words ≤ 2048 ⌝ }
-    ensures { λ r. ⌜ Counted (now (src .entry)) (blockStores (loadOf tile) «image_siz» dxt words)
-        (now (bank .entry)) (now (written .entry)) (now (bank .exit)) (now (written .exit)) r ⌝ }
+    ensures { λ r. ⌜ Counted (now (src .entry)) (blockStores (loadOf tile) «image_siz» dxt words) number
+        (memory (now (bank .entry)) (now (written .entry))) (memory (now (bank .exit)) (now (written .exit))) r ⌝ }
 {
     let image = image_tile(tile, image_siz);
     let run = Run::of_image(image_siz, 0, dxt, 0);
-    write_words(bank, written, src, image, run, words)
+    write_words(bank, written, src, image, run, words, number)
 }

@@ -1,7 +1,7 @@
 // A tile load: rows of words, each from its own place of the source.
 ghost use Prim.Native.Nat.{_<_, _≤_};
 ghost use Rattle.rules.specs.Load.{tileRow, tileStores};
-ghost use Rattle.tmem.specs.Part.{loadOf, Lent, Counted};
+ghost use Rattle.tmem.specs.Part.{loadOf, memory, Lent, Counted};
 use crate::place::LoadTile;
 use crate::place::image_tile;
 use crate::tally::Tally;
@@ -18,18 +18,19 @@ fn write_tile_row(
     words: usize,
     stride: usize,
     row: usize,
+    number: usize,
 ) -> Tally
-    requires { ⌜ Lent (now bank) (now written) ⌝ }
+    requires { ⌜ Lent (memory (now bank) (now written)) number ⌝ }
     requires { ⌜ «image_siz» ≤ 3 ⌝ }
     requires { ⌜ words ≤ 512 ⌝ }
     requires { ⌜ stride ≤ 65535 ⌝ }
     requires { ⌜ row < 1024 ⌝ }
-    ensures { λ r. ⌜ Counted (now (src .entry)) (tileRow (loadOf tile) «image_siz» words stride row)
-        (now (bank .entry)) (now (written .entry)) (now (bank .exit)) (now (written .exit)) r ⌝ }
+    ensures { λ r. ⌜ Counted (now (src .entry)) (tileRow (loadOf tile) «image_siz» words stride row) number
+        (memory (now (bank .entry)) (now (written .entry))) (memory (now (bank .exit)) (now (written .exit))) r ⌝ }
 {
     let image = image_tile(tile, image_siz);
     let run = Run::of_image(image_siz, row, 0, row * stride);
-    write_words(bank, written, src, image, run, words)
+    write_words(bank, written, src, image, run, words, number)
 }
 
 // The rows of a tile; it answers its tally of stores.
@@ -42,18 +43,29 @@ pub(crate) fn write_tile_rows(
     rows: usize,
     words: usize,
     stride: usize,
+    number: usize,
 ) -> Tally
-    requires { ⌜ Lent (now bank) (now written) ⌝ }
+    requires { ⌜ Lent (memory (now bank) (now written)) number ⌝ }
     requires { ⌜ «image_siz» ≤ 3 ⌝ }
     requires { ⌜ rows ≤ 1024 ⌝ }
     requires { ⌜ words ≤ 512 ⌝ }
     requires { ⌜ stride ≤ 65535 ⌝ }
-    ensures { λ r. ⌜ Counted (now (src .entry)) (tileStores (loadOf tile) «image_siz» rows words stride)
-        (now (bank .entry)) (now (written .entry)) (now (bank .exit)) (now (written .exit)) r ⌝ }
+    ensures { λ r. ⌜ Counted (now (src .entry)) (tileStores (loadOf tile) «image_siz» rows words stride) number
+        (memory (now (bank .entry)) (now (written .entry))) (memory (now (bank .exit)) (now (written .exit))) r ⌝ }
 {
     let mut tally = Tally::none();
     for row in 0..rows {
-        let more = write_tile_row(bank, written, src, tile, image_siz, words, stride, row);
+        let more = write_tile_row(
+            bank,
+            written,
+            src,
+            tile,
+            image_siz,
+            words,
+            stride,
+            row,
+            number,
+        );
         tally = tally.plus(more);
     }
     tally

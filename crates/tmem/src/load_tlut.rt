@@ -2,7 +2,7 @@
 ghost use mathlib.Core.Path.{_≡_};
 ghost use Prim.Native.Nat.{_≤_};
 ghost use Rattle.rules.specs.Load.{entries, advance, steps, hardwareStores, tlutStores};
-ghost use Rattle.tmem.specs.Part.{loadOf, Lent, Counted};
+ghost use Rattle.tmem.specs.Part.{loadOf, memory, Lent, Counted};
 use crate::entries::write_tlut_rows;
 use crate::place::LoadTile;
 use crate::tally::Tally;
@@ -46,12 +46,13 @@ fn write_tlut_words(
     tile: LoadTile,
     image_siz: u32,
     count: usize,
+    number: usize,
 ) -> Tally
-    requires { ⌜ Lent (now bank) (now written) ⌝ }
+    requires { ⌜ Lent (memory (now bank) (now written)) number ⌝ }
     requires { ⌜ «image_siz» ≤ 3 ⌝ }
     requires { ⌜ count ≤ 1024 ⌝ }
-    ensures { λ r. ⌜ Counted (now (src .entry)) (hardwareStores (loadOf tile) «image_siz» count)
-        (now (bank .entry)) (now (written .entry)) (now (bank .exit)) (now (written .exit)) r ⌝ }
+    ensures { λ r. ⌜ Counted (now (src .entry)) (hardwareStores (loadOf tile) «image_siz» count) number
+        (memory (now (bank .entry)) (now (written .entry))) (memory (now (bank .exit)) (now (written .exit))) r ⌝ }
 {
     let columns = 64usize >> image_siz;
     let advance = tlut_advance(image_siz);
@@ -64,7 +65,7 @@ fn write_tlut_words(
         replicate: true,
     };
     let steps = tlut_steps(image_siz, count);
-    write_words(bank, written, src, tile, run, steps)
+    write_words(bank, written, src, tile, run, steps, number)
 }
 
 // A lookup table: the hardware's load for one row of an image above size 0, rows of entries otherwise.
@@ -77,17 +78,18 @@ pub(crate) fn write_tlut(
     count: usize,
     rows: usize,
     stride: usize,
+    number: usize,
 ) -> Tally
-    requires { ⌜ Lent (now bank) (now written) ⌝ }
+    requires { ⌜ Lent (memory (now bank) (now written)) number ⌝ }
     requires { ⌜ «image_siz» ≤ 3 ⌝ }
     requires { ⌜ count ≤ 1024 ⌝ }
     requires { ⌜ rows ≤ 1024 ⌝ }
     requires { ⌜ stride ≤ 65535 ⌝ }
-    ensures { λ r. ⌜ Counted (now (src .entry)) (tlutStores (loadOf tile) «image_siz» count rows stride)
-        (now (bank .entry)) (now (written .entry)) (now (bank .exit)) (now (written .exit)) r ⌝ }
+    ensures { λ r. ⌜ Counted (now (src .entry)) (tlutStores (loadOf tile) «image_siz» count rows stride) number
+        (memory (now (bank .entry)) (now (written .entry))) (memory (now (bank .exit)) (now (written .exit))) r ⌝ }
 {
     if (rows == 1) & (0 < image_siz) {
-        return write_tlut_words(bank, written, src, tile, image_siz, count);
+        return write_tlut_words(bank, written, src, tile, image_siz, count, number);
     }
-    write_tlut_rows(bank, written, src, tile, count, rows, stride)
+    write_tlut_rows(bank, written, src, tile, count, rows, stride, number)
 }

@@ -4,7 +4,8 @@ ghost use Prim.Native.Nat.{_+_, _*_, _%_, _<_, _≤_, _^_};
 ghost use lib.Bits.{bitXor};
 ghost use Rattle.rules.specs.Tile.{bankSize, paletteBase};
 ghost use Rattle.rules.specs.Load.{list4, upper, splitStores, wholeStores, wordStores};
-ghost use Rattle.tmem.specs.Part.{loadOf, Lent, Spots, placeOf, halfStores, splitStep, splitFour, bytesIn, CarriedOut, Counted};
+ghost use Rattle.tmem.specs.Part.{loadOf, memory, Lent, Spots, placeOf, halfStores, splitStep, splitFour, bytesIn};
+ghost use Rattle.tmem.specs.Part.{CarriedOut, Counted};
 use crate::bank::Bank;
 use crate::halfword::Halfword;
 use crate::place::LoadTile;
@@ -25,21 +26,22 @@ fn write_split_place(
     tile: LoadTile,
     low: ByteAddr,
     k: usize,
+    number: usize,
 )
-    requires { ⌜ Lent (now bank) (now written) ⌝ }
+    requires { ⌜ Lent (memory (now bank) (now written)) number ⌝ }
     requires { ⌜ (low .0 < paletteBase) × (low .0 % 2 ≡ 0) ⌝ }
     requires { ⌜ k ≤ 4 ⌝ }
-    ensures { λ _. ⌜ CarriedOut (bytesIn word) (splitFour (splitStep (loadOf tile)) (low .0) k)
-        (now (bank .entry)) (now (written .entry)) (now (bank .exit)) (now (written .exit)) ⌝ }
+    ensures { λ _. ⌜ CarriedOut (bytesIn word) (splitFour (splitStep (loadOf tile)) (low .0) k) number
+        (memory (now (bank .entry)) (now (written .entry))) (memory (now (bank .exit)) (now (written .exit))) ⌝ }
 {
     let high = ByteAddr(low.0 + Bank::PALETTE_BASE);
     if tile.fmt == 1 {
-        store_pair(bank, written, word, low, k, k + 2);
-        store_pair(bank, written, word, high, k + 1, k + 3);
+        store_pair(bank, written, word, low, k, k + 2, number);
+        store_pair(bank, written, word, high, k + 1, k + 3, number);
         return;
     }
-    store_pair(bank, written, word, low, k, k + 1);
-    store_pair(bank, written, word, high, k + 2, k + 3);
+    store_pair(bank, written, word, low, k, k + 1, number);
+    store_pair(bank, written, word, high, k + 2, k + 3, number);
 }
 
 // A word that goes to both halves of the bank, four bytes at each of two places of the list.
@@ -51,16 +53,17 @@ fn write_split_word(
     first: Halfword,
     odd: usize,
     start: usize,
+    number: usize,
 )
-    requires { ⌜ Lent (now bank) (now written) ⌝ }
+    requires { ⌜ Lent (memory (now bank) (now written)) number ⌝ }
     requires { ⌜ Spots (first .0) odd ⌝ }
     requires { ⌜ start ≤ 2 ⌝ }
-    ensures { λ _. ⌜ CarriedOut (bytesIn word) (splitStores (loadOf tile) (list4 (first .0) odd) start (λ k. k))
-        (now (bank .entry)) (now (written .entry)) (now (bank .exit)) (now (written .exit)) ⌝ }
+    ensures { λ _. ⌜ CarriedOut (bytesIn word) (splitStores (loadOf tile) (list4 (first .0) odd) start (λ k. k)) number
+        (memory (now (bank .entry)) (now (written .entry))) (memory (now (bank .exit)) (now (written .exit))) ⌝ }
 {
     for i in 0..2 {
         let low = place_halfword(first, odd, start + i).lower_byte();
-        write_split_place(bank, written, word, tile, low, 4 * i);
+        write_split_place(bank, written, word, tile, low, 4 * i, number);
     }
 }
 
@@ -73,33 +76,41 @@ fn write_whole_place(
     at: ByteAddr,
     odd: usize,
     k: usize,
+    number: usize,
 )
-    requires { ⌜ Lent (now bank) (now written) ⌝ }
+    requires { ⌜ Lent (memory (now bank) (now written)) number ⌝ }
     requires { ⌜ (at .0 < bankSize) × (at .0 % 2 ≡ 0) ⌝ }
     requires { ⌜ (odd ≤ 2) × (odd % 2 ≡ 0) ⌝ }
     requires { ⌜ k < 4 ⌝ }
-    ensures { λ _. ⌜ CarriedOut (bytesIn word) (halfStores (at .0) (2 * bitXor k odd) (2 * bitXor k odd + 1))
-        (now (bank .entry)) (now (written .entry)) (now (bank .exit)) (now (written .exit)) ⌝ }
+    ensures { λ _. ⌜ CarriedOut (bytesIn word) (halfStores (at .0) (2 * bitXor k odd) (2 * bitXor k odd + 1)) number
+        (memory (now (bank .entry)) (now (written .entry))) (memory (now (bank .exit)) (now (written .exit))) ⌝ }
 {
     if odd == 0 {
-        store_pair(bank, written, word, at, 2 * k, 2 * k + 1);
+        store_pair(bank, written, word, at, 2 * k, 2 * k + 1, number);
         return;
     }
     let other = k ^ 2;
-    store_pair(bank, written, word, at, 2 * other, 2 * other + 1);
+    store_pair(bank, written, word, at, 2 * other, 2 * other + 1, number);
 }
 
 // A word that goes to one half of the bank, two bytes at each address of the list of four.
-fn write_whole_word(bank: &mut [u8], written: &mut [u8], word: u64, first: Halfword, odd: usize)
-    requires { ⌜ Lent (now bank) (now written) ⌝ }
+fn write_whole_word(
+    bank: &mut [u8],
+    written: &mut [u8],
+    word: u64,
+    first: Halfword,
+    odd: usize,
+    number: usize,
+)
+    requires { ⌜ Lent (memory (now bank) (now written)) number ⌝ }
     requires { ⌜ Spots (first .0) odd ⌝ }
-    ensures { λ _. ⌜ CarriedOut (bytesIn word) (wholeStores (list4 (first .0) odd) (upper (first .0)) odd (λ k. k))
-        (now (bank .entry)) (now (written .entry)) (now (bank .exit)) (now (written .exit)) ⌝ }
+    ensures { λ _. ⌜ CarriedOut (bytesIn word) (wholeStores (list4 (first .0) odd) (upper (first .0)) odd (λ k. k)) number
+        (memory (now (bank .entry)) (now (written .entry))) (memory (now (bank .exit)) (now (written .exit))) ⌝ }
 {
     for k in 0..4 {
         let n = place_halfword(first, odd, k);
         let at = ByteAddr(n.lower_byte().0 + first.half_start().0);
-        write_whole_place(bank, written, word, at, odd, k);
+        write_whole_place(bank, written, word, at, odd, k, number);
     }
 }
 
@@ -113,12 +124,13 @@ pub(crate) fn write_load_word(
     t: usize,
     source: usize,
     replicate: bool,
+    number: usize,
 ) -> Tally
-    requires { ⌜ Lent (now bank) (now written) ⌝ }
+    requires { ⌜ Lent (memory (now bank) (now written)) number ⌝ }
     requires { ⌜ t < 4096 ⌝ }
     requires { ⌜ source < 2 ^ 32 ⌝ }
-    ensures { λ r. ⌜ Counted (now (src .entry)) (wordStores (loadOf tile) s t (placeOf source replicate))
-        (now (bank .entry)) (now (written .entry)) (now (bank .exit)) (now (written .exit)) r ⌝ }
+    ensures { λ r. ⌜ Counted (now (src .entry)) (wordStores (loadOf tile) s t (placeOf source replicate)) number
+        (memory (now (bank .entry)) (now (written .entry))) (memory (now (bank .exit)) (now (written .exit))) r ⌝ }
 {
     let column = column_halfword(tile, s);
     let first = first_halfword(row_word(tile, t), column);
@@ -130,9 +142,9 @@ pub(crate) fn write_load_word(
     };
     if (tile.fmt == 1) | ((tile.fmt == 0) & (tile.siz == 3)) {
         let start = (column.0 & 2) ^ odd;
-        write_split_word(bank, written, word.bytes, tile, first, odd, start);
+        write_split_word(bank, written, word.bytes, tile, first, odd, start, number);
         return tally;
     }
-    write_whole_word(bank, written, word.bytes, first, odd);
+    write_whole_word(bank, written, word.bytes, first, odd, number);
     tally
 }

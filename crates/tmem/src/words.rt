@@ -1,7 +1,7 @@
 // A run of word loads, which block, tile and TLUT loads share.
 ghost use mathlib.Core.Path.{_≡_};
 ghost use Prim.Native.Nat.{_<_, _≤_, _^_};
-ghost use Rattle.tmem.specs.Part.{loadOf, Lent, Counted};
+ghost use Rattle.tmem.specs.Part.{loadOf, memory, Lent, Counted};
 ghost use Rattle.tmem.specs.Run.{Paced, imageRun, wordAt, runStores};
 use crate::place::LoadTile;
 use crate::tally::Tally;
@@ -73,12 +73,13 @@ pub(crate) fn write_words(
     tile: LoadTile,
     run: Run,
     words: usize,
+    number: usize,
 ) -> Tally
-    requires { ⌜ Lent (now bank) (now written) ⌝ }
+    requires { ⌜ Lent (memory (now bank) (now written)) number ⌝ }
     requires { ⌜ Paced run ⌝ }
     requires { ⌜ words ≤ 2048 ⌝ }
-    ensures { λ r. ⌜ Counted (now (src .entry)) (runStores (loadOf tile) run words)
-        (now (bank .entry)) (now (written .entry)) (now (bank .exit)) (now (written .exit)) r ⌝ }
+    ensures { λ r. ⌜ Counted (now (src .entry)) (runStores (loadOf tile) run words) number
+        (memory (now (bank .entry)) (now (written .entry))) (memory (now (bank .exit)) (now (written .exit))) r ⌝ }
 {
     let mut tally = Tally::none();
     for word in 0..words {
@@ -92,6 +93,7 @@ pub(crate) fn write_words(
             at.t,
             at.source,
             run.replicate,
+            number,
         );
         tally = tally.plus(more);
     }

@@ -1,36 +1,41 @@
-// The written marks: a record of the lent map, which is itself lent to the one function that marks.
+// The written record: the part of the lent map that starts with a halfword's numbers, which is itself lent to the one function that
+// stores them.
 ghost use mathlib.Core.Path.{_≡_};
-ghost use Prim.Native.Nat.{_/_, _%_, _<_};
+ghost use Prim.Native.Nat.{_<_, _≤_};
 ghost use lib.ListN.{length};
-ghost use Rattle.tmem.specs.Marks.{bothMarked, markedIn};
+ghost use Rattle.tmem.specs.Marks.{bothStamped, stampedIn};
 
-// Both addresses of a halfword are marked at once: address a is bit a mod 8 of byte a div 8, so they are neighbours in one byte.
-fn mark_halfword(map: &mut [u8], at: usize)
-    requires { ⌜ (at / 8 < length (now map)) × (at % 2 ≡ 0) ⌝ }
-    ensures { λ _. ⌜ now (map .exit) ≡ bothMarked (now (map .entry)) at ⌝ }
+// Both addresses of a halfword get the number at once: two bytes each, big end first, at the front of the part that starts with them.
+fn mark_halfword(part: &mut [u8], number: usize)
+    requires { ⌜ (4 ≤ length (now part)) × (number < 65536) ⌝ }
+    ensures { λ _. ⌜ now (part .exit) ≡ bothStamped number (now (part .entry)) 0 ⌝ }
 {
-    let i = at / 8;
-    map[i] = map[i] | 3u8 << at % 8;
+    let high = (number / 256) as u8;
+    let low = (number % 256) as u8;
+    part[0] = high;
+    part[1] = low;
+    part[2] = high;
+    part[3] = low;
 }
 
-// What is written, by a map of bits that it borrows.
+// What is written, by a part of a map of numbers that it borrows.
 pub(crate) struct Written<'a> {
     pub(crate) map: &'a mut [u8],
 }
 
-// The record is updated: its map has both addresses of a halfword marked as well.
-fn mark(w: &mut Written, at: usize)
-    requires { ⌜ (at / 8 < length (now (now w .map))) × (at % 2 ≡ 0) ⌝ }
-    ensures { λ _. ⌜ now (w .exit) ≡ markedIn (now (w .entry)) at ⌝ }
+// The record is updated: the first two addresses of its part have the number.
+fn mark(w: &mut Written, number: usize)
+    requires { ⌜ (4 ≤ length (now (now w .map))) × (number < 65536) ⌝ }
+    ensures { λ _. ⌜ now (w .exit) ≡ stampedIn (now (w .entry)) number ⌝ }
 {
-    mark_halfword(&mut *w.map, at)
+    mark_halfword(&mut *w.map, number)
 }
 
-// The same for a plain map: its contract says nothing of the record.
-pub(crate) fn mark_in(map: &mut [u8], at: usize)
-    requires { ⌜ (at / 8 < length (now map)) × (at % 2 ≡ 0) ⌝ }
-    ensures { λ _. ⌜ now (map .exit) ≡ bothMarked (now (map .entry)) at ⌝ }
+// The same for a plain part: its contract says nothing of the record.
+pub(crate) fn mark_in(map: &mut [u8], number: usize)
+    requires { ⌜ (4 ≤ length (now map)) × (number < 65536) ⌝ }
+    ensures { λ _. ⌜ now (map .exit) ≡ bothStamped number (now (map .entry)) 0 ⌝ }
 {
     let mut w = Written { map };
-    mark(&mut w, at)
+    mark(&mut w, number)
 }

@@ -3,7 +3,7 @@ use mathlib.Core.Path.{_≡_}
 use mathlib.Core.List.{[], _∷_}
 use denote.Ref.{now}
 use Rattle.rdp.proofs.Determined.{answered-determined, load-determined, size-determined, refusal-determined, sampling-determined}
-use Rattle.rdp.proofs.Determined.{split-determined, yes-determined}
+use Rattle.rdp.proofs.Determined.{replay-determined, split-determined, yes-determined}
 use Rattle.tulonkasa.proofs.files.tk_write_pam.Reads as tk-write-pam
 use Rattle.tulonkasa.proofs.files.tk_read_pam.Reads as tk-read-pam
 use Rattle.tulonkasa.proofs.keys.tk_key.Reads as tk-key
@@ -84,7 +84,7 @@ tk-sampling-one w a r s e f p q = sampling-determined _ r s p q
 
 pub tk-replay-record-one : (w : _) (a : _) (r s : _) (e f : _) → tk-replay-record.Post w a r e → tk-replay-record.Post w a s f
     → (r ≡ s) × (now (e .0) ∷ now (e .1 .0) ∷ [] ≡ now (f .0) ∷ now (f .1 .0) ∷ [])
-tk-replay-record-one w a r s e f p q = answered-determined _ r s _ _ p q
+tk-replay-record-one w a r s e f p q = replay-determined _ r s _ _ p q
 
 pub tk-split-one : (w : _) (a : _) (r s : _) (e f : _) → tk-split.Post w a r e → tk-split.Post w a s f
     → (r ≡ s) × (now (e .1 .1 .0) ∷ [] ≡ now (f .1 .1 .0) ∷ [])

@@ -7,7 +7,8 @@ ghost use Rattle.rules.specs.Tile.{loadTileFrom};
 use crate::tile::load_tile_from;
 use rdp::answer::LoadAnswer;
 
-// A block load; the count of stores is answered, and how many of their bytes came from past the source's end.
+// A block load, after a load of the number `last`. The count of stores is answered, how many of their bytes came from past the source's
+// end, and the load's number; where it is refused, zeros and the number passed.
 #[no_mangle]
 pub extern "C" fn tk_load_block(
     bank: &mut [u8],
@@ -20,13 +21,14 @@ pub extern "C" fn tk_load_block(
     image_siz: u32,
     dxt: u32,
     words: u32,
+    last: u32,
 ) -> LoadAnswer
     ensures { λ r. ⌜ loadAnswered r (now (bank .exit) ∷ now (written .exit) ∷ [])
         ≡ blockCall (now (bank .entry)) (now (written .entry)) (now (source .entry))
-        (loadTileFrom fmt siz line «tmem_addr») «image_siz» dxt words ⌝ }
+        (loadTileFrom fmt siz line «tmem_addr») «image_siz» dxt words last ⌝ }
 {
     let tile = load_tile_from(fmt, siz, line, tmem_addr);
-    tmem::load::write_block_for_tile(bank, written, source, tile, image_siz, dxt, words)
+    tmem::load::write_block_for_tile(bank, written, source, tile, image_siz, dxt, words, last)
 }
 
 // A tile load.
@@ -43,13 +45,24 @@ pub extern "C" fn tk_load_tile(
     rows: u32,
     words: u32,
     stride: u32,
+    last: u32,
 ) -> LoadAnswer
     ensures { λ r. ⌜ loadAnswered r (now (bank .exit) ∷ now (written .exit) ∷ [])
         ≡ tileCall (now (bank .entry)) (now (written .entry)) (now (source .entry))
-        (loadTileFrom fmt siz line «tmem_addr») «image_siz» rows words stride ⌝ }
+        (loadTileFrom fmt siz line «tmem_addr») «image_siz» rows words stride last ⌝ }
 {
     let tile = load_tile_from(fmt, siz, line, tmem_addr);
-    tmem::load::write_tile_for_tile(bank, written, source, tile, image_siz, rows, words, stride)
+    tmem::load::write_tile_for_tile(
+        bank,
+        written,
+        source,
+        tile,
+        image_siz,
+        rows,
+        words,
+        stride,
+        last,
+    )
 }
 
 // A TLUT load.
@@ -66,11 +79,22 @@ pub extern "C" fn tk_load_tlut(
     count: u32,
     rows: u32,
     stride: u32,
+    last: u32,
 ) -> LoadAnswer
     ensures { λ r. ⌜ loadAnswered r (now (bank .exit) ∷ now (written .exit) ∷ [])
         ≡ tlutCall (now (bank .entry)) (now (written .entry)) (now (source .entry))
-        (loadTileFrom fmt siz line «tmem_addr») «image_siz» count rows stride ⌝ }
+        (loadTileFrom fmt siz line «tmem_addr») «image_siz» count rows stride last ⌝ }
 {
     let tile = load_tile_from(fmt, siz, line, tmem_addr);
-    tmem::load::write_tlut_for_tile(bank, written, source, tile, image_siz, count, rows, stride)
+    tmem::load::write_tlut_for_tile(
+        bank,
+        written,
+        source,
+        tile,
+        image_siz,
+        count,
+        rows,
+        stride,
+        last,
+    )
 }

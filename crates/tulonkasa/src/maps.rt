@@ -1,4 +1,4 @@
-// The calls on bit maps: reach, has-load and the lane check.
+// The calls on maps: reach, has-load and the lane check.
 ghost use mathlib.Core.Path.{_≡_};
 ghost use mathlib.Core.List.{[], _∷_};
 ghost use Rattle.rules.specs.Calls.{reachCall, hasLoadCall, laneCall};

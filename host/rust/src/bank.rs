@@ -1,5 +1,5 @@
 //! The bank, and the calls on it.
-use crate::{slices, AddressMap, LaneMap, Picture, Refusal, Tile};
+use crate::{slices, LaneMap, Picture, Refusal, Tile, Written};
 
 /// The bytes of a bank, and of a key.
 pub const BANK_BYTES: usize = 4096;
@@ -10,11 +10,11 @@ pub const LOOKUP_TEXELS: usize = 16384;
 /// A texel reads at most this many bytes of the bank.
 const TEXEL_READS_MOST: usize = 4;
 
-/// Texture memory: 4,096 bytes, and the map of those that a load has written.
+/// Texture memory: 4,096 bytes, and the record of which load wrote each of them.
 #[derive(Clone, Debug, PartialEq, Eq)]
 pub struct Bank {
     bytes: [u8; BANK_BYTES],
-    written: AddressMap,
+    written: Written,
 }
 
 /// What a load did.
@@ -26,6 +26,9 @@ pub struct Loaded {
     /// came from the source; above 0 the load asks for more than the source has, as where a capture cut it short. A byte that is
     /// stored several times over, as a palette's are, counts each time. Never above `count`.
     pub made_up: u32,
+    /// Its number, counted from 1 on since the bank was fresh. It stands at each address that it stored at, until a later load
+    /// stores there ([`Bank::written`]).
+    pub number: u32,
 }
 
 /// A picture with the addresses that were read for it, in order.
@@ -52,15 +55,15 @@ impl Default for Bank {
     }
 }
 
-/// A bank of these bytes, none marked as written.
+/// A bank of these bytes, none written by a load.
 impl From<[u8; BANK_BYTES]> for Bank {
     fn from(bytes: [u8; BANK_BYTES]) -> Self {
-        Self { bytes, written: AddressMap::default() }
+        Self { bytes, written: Written::default() }
     }
 }
 
 impl Bank {
-    /// A fresh bank: all zero, nothing marked as written.
+    /// A fresh bank: all zero, and nothing written by a load.
     pub fn new() -> Self {
         Self::default()
     }
@@ -70,18 +73,18 @@ impl Bank {
         &self.bytes
     }
 
-    /// Its bytes, to be changed by hand. That marks nothing as written.
+    /// Its bytes, to be changed by hand. The record of what loads wrote stays as it is.
     pub fn bytes_mut(&mut self) -> &mut [u8; BANK_BYTES] {
         &mut self.bytes
     }
 
-    /// The addresses that a load has stored to.
-    pub fn written(&self) -> &AddressMap {
+    /// Which load wrote each byte: the number of the last one that stored there.
+    pub fn written(&self) -> &Written {
         &self.written
     }
 
     /// Loads a block of `words` words of eight bytes. Of the tile it takes `fmt`, `siz`, `line` and `tmem_addr`. The source is read
-    /// as zero past its end, and the answer says how many of these zeros were stored.
+    /// as zero past its end, and the answer says how many of these zeros were stored, and the load's number.
     ///
     /// ```
     /// use tulonkasa::{Bank, Loaded, Tile};
@@ -89,12 +92,12 @@ impl Bank {
     /// let mut bank = Bank::new();
     /// let tile = Tile { fmt: 0, siz: 3, ..Tile::default() };
     /// let whole = bank.load_block(&[0, 1, 2, 3, 4, 5, 6, 7], &tile, 3, 0, 1)?;
-    /// assert_eq!(whole, Loaded { count: 8, made_up: 0 });
+    /// assert_eq!(whole, Loaded { count: 8, made_up: 0, number: 1 });
     /// assert_eq!(bank.bytes()[..4], [0, 1, 4, 5]);
     /// assert_eq!(bank.bytes()[2048..2052], [2, 3, 6, 7]);
     ///
     /// let cut = bank.load_block(&[0, 1, 2, 3, 4], &tile, 3, 0, 1)?;
-    /// assert_eq!(cut, Loaded { count: 8, made_up: 3 });
+    /// assert_eq!(cut, Loaded { count: 8, made_up: 3, number: 2 });
     /// # Ok::<(), tulonkasa::Refusal>(())
     /// ```
     pub fn load_block(
@@ -105,7 +108,8 @@ impl Bank {
         dxt: u32,
         words: u32,
     ) -> Result<Loaded, Refusal> {
-        slices::load_block(&mut self.bytes, &mut self.written.0, source, tile, image_siz, dxt, words)
+        let Written { bytes: written, last } = &mut self.written;
+        slices::load_block(&mut self.bytes, written, source, tile, image_siz, dxt, words, last)
     }
 
     /// Loads `rows` rows of `words` words each, `stride` source bytes apart.
@@ -129,7 +133,8 @@ impl Bank {
         words: u32,
         stride: u32,
     ) -> Result<Loaded, Refusal> {
-        slices::load_tile(&mut self.bytes, &mut self.written.0, source, tile, image_siz, rows, words, stride)
+        let Written { bytes: written, last } = &mut self.written;
+        slices::load_tile(&mut self.bytes, written, source, tile, image_siz, rows, words, stride, last)
     }
 
     /// Loads a palette of `rows` rows of `count` entries, `stride` source bytes apart.
@@ -152,7 +157,8 @@ impl Bank {
         rows: u32,
         stride: u32,
     ) -> Result<Loaded, Refusal> {
-        slices::load_tlut(&mut self.bytes, &mut self.written.0, source, tile, image_siz, count, rows, stride)
+        let Written { bytes: written, last } = &mut self.written;
+        slices::load_tlut(&mut self.bytes, written, source, tile, image_siz, count, rows, stride, last)
     }
 
     /// The tile's plain picture: `width` by `height` texels of four bytes.
@@ -230,7 +236,7 @@ impl Bank {
 
     /// Whether the tile can reach an address that a load has written.
     pub fn tile_has_load(&self, tile: &Tile) -> Result<bool, Refusal> {
-        slices::tile_has_load(tile, &self.written.0)
+        slices::tile_has_load(tile, self.written.bytes())
     }
 
     /// The palette slots whose four pairs of bytes are not all equal.
@@ -277,6 +283,9 @@ impl Bank {
     /// `end` is the length of the capture's companion file, and `part` the file's bytes from the record's offset on: at least as
     /// many as the record states. A key needs none.
     ///
+    /// A load takes the next number; a key and a refused record take none. After the 65,535th load each further one is refused by
+    /// [`Refusal::Number`], and keys go on.
+    ///
     /// ```
     /// use tulonkasa::{Bank, Refusal};
     ///
@@ -297,10 +306,12 @@ impl Bank {
     /// assert_eq!(bank.bytes()[..8], companion);
     /// assert_eq!(bank.replay_record(&key, 8, &[])?, 8);
     /// assert_eq!(bank.replay_record(&block, 7, &companion[..7]), Err(Refusal::Beyond));
+    /// assert_eq!((bank.written().number_at(7), bank.written().last()), (1, 1));
     /// # Ok::<(), tulonkasa::Refusal>(())
     /// ```
     pub fn replay_record(&mut self, record: &[u8], end: u64, part: &[u8]) -> Result<u32, Refusal> {
-        slices::replay_record(&mut self.bytes, &mut self.written.0, record, end, part)
+        let Written { bytes: written, last } = &mut self.written;
+        slices::replay_record(&mut self.bytes, written, record, end, part, last)
     }
 }
 

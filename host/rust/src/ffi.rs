@@ -6,7 +6,7 @@
 //! Each pointer must be good for its length (a length of 0 allows any pointer), and the buffers of one call must not
 //! overlap. Nothing else is asked: every number and every length is taken or refused.
 
-/// A refusal, and a count of reads, kept bytes or a file's bytes, or of a record's stores.
+/// A refusal, and a count of reads, kept bytes or a file's bytes.
 #[repr(C)]
 #[derive(Clone, Copy, Debug, PartialEq, Eq)]
 pub struct Answer {
@@ -14,13 +14,25 @@ pub struct Answer {
     pub count: u32,
 }
 
-/// A refusal, the count of a load's stores, and how many of their bytes were made up past the source's end.
+/// A refusal, the count of a load's stores, how many of their bytes were made up past the source's end, and the number of the last
+/// load after it: where it was refused, the one that was passed.
 #[repr(C)]
 #[derive(Clone, Copy, Debug, PartialEq, Eq)]
 pub struct LoadAnswer {
     pub refusal: u32,
     pub count: u32,
     pub made_up: u32,
+    pub number: u32,
+}
+
+/// A refusal, the count of a record's stores or of the bytes that its key would keep, and the number of the last load after it: of a key
+/// and where it was refused, the one that was passed.
+#[repr(C)]
+#[derive(Clone, Copy, Debug, PartialEq, Eq)]
+pub struct ReplayAnswer {
+    pub refusal: u32,
+    pub count: u32,
+    pub number: u32,
 }
 
 /// A refusal, the sampling flag, and the allocation extent.
@@ -89,6 +101,7 @@ extern "C" {
         image_siz: u32,
         dxt: u32,
         words: u32,
+        last: u32,
     ) -> LoadAnswer;
 
     pub fn tk_load_tile(
@@ -106,6 +119,7 @@ extern "C" {
         rows: u32,
         words: u32,
         stride: u32,
+        last: u32,
     ) -> LoadAnswer;
 
     pub fn tk_load_tlut(
@@ -123,6 +137,7 @@ extern "C" {
         count: u32,
         rows: u32,
         stride: u32,
+        last: u32,
     ) -> LoadAnswer;
 
     pub fn tk_write_pam(
@@ -148,7 +163,8 @@ extern "C" {
         end: u64,
         part: *const u8,
         part_length: usize,
-    ) -> Answer;
+        last: u32,
+    ) -> ReplayAnswer;
 
     pub fn tk_split(
         count: u32,

@@ -1,5 +1,5 @@
-//! Texture memory of a cartridge game console: loads, pictures (as files too), a key for each picture, the replay of captured
-//! loads, and the [`split`] of captures into tuning and held-out ones.
+//! Texture memory of a cartridge game console: loads and which of them wrote a byte, pictures (as files too), a key for each picture,
+//! the replay of captured loads, and the [`split`] of captures into tuning and held-out ones.
 //!
 //! The work is done by a static library whose every function is proved to meet its contract on every input. This crate
 //! gives it Rust's types: a [`Bank`] of memory, a [`Tile`] that says how to read it, and a [`Refusal`] where a number is out
@@ -31,6 +31,7 @@ mod refusal;
 pub mod slices;
 mod split;
 mod tile;
+mod written;
 
 pub use bank::{Bank, Key, Loaded, Observed, BANK_BYTES, LOOKUP_TEXELS};
 pub use map::{AddressMap, LaneMap, Map};
@@ -38,6 +39,7 @@ pub use picture::{Picture, PAM_HEADER_MOST};
 pub use refusal::Refusal;
 pub use split::{split, Entry, Side, Split, Totals, ENTRIES_MOST, ENTRY_BYTES};
 pub use tile::{Sampling, Tile, SIDE_MOST, TILE_BYTES};
+pub use written::{Written, LOADS_MOST, WRITTEN_BYTES};
 
 #[cfg(test)]
 mod tests;

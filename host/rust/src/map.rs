@@ -1,4 +1,4 @@
-//! Maps of bits: one for each address of a bank, or for each slot of its palette.
+//! Maps of bits: one for each address of a bank that a tile can reach, or for each slot of its palette.
 
 /// A set of the numbers 0 to 8·N - 1. Number a is bit a mod 8 of byte a div 8.
 #[derive(Clone, Copy, Debug, PartialEq, Eq)]

@@ -5,7 +5,8 @@ use std::fmt;
 #[derive(Clone, Copy, Debug, PartialEq, Eq, Hash)]
 #[non_exhaustive]
 pub enum Refusal {
-    /// 1: a bank, key or map has a wrong length. The calls of [`crate::slices`] can get it; those on this crate's own types can't.
+    /// 1: a bank, key, written record or map has a wrong length. The calls of [`crate::slices`] can get it; those on this crate's own
+    /// types can't.
     Length,
     /// 2: a field of the tile is out of range, or a side of a picture is above [`crate::SIDE_MOST`].
     Tile,
@@ -40,6 +41,8 @@ pub enum Refusal {
     /// 17: a split's entries are not [`crate::ENTRY_BYTES`] each, or its sides not one byte each. The call of [`crate::slices`] can
     /// get it; the one on this crate's own types can't.
     Entries,
+    /// 18: no number is left for a load: there were [`crate::LOADS_MOST`] since the bank was fresh.
+    Number,
     /// A number that this crate has no name for.
     Other(u32),
 }
@@ -66,6 +69,7 @@ impl Refusal {
             15 => Self::Texels,
             16 => Self::Count,
             17 => Self::Entries,
+            18 => Self::Number,
             other => Self::Other(other),
         })
     }
@@ -90,6 +94,7 @@ impl Refusal {
             Self::Texels => 15,
             Self::Count => 16,
             Self::Entries => 17,
+            Self::Number => 18,
             Self::Other(number) => number,
         }
     }
@@ -106,7 +111,7 @@ impl Refusal {
 impl fmt::Display for Refusal {
     fn fmt(&self, f: &mut fmt::Formatter<'_>) -> fmt::Result {
         let words = match self {
-            Self::Length => "a bank, key or map has a wrong length",
+            Self::Length => "a bank, key, written record or map has a wrong length",
             Self::Tile => "a field of the tile is out of range, or a side of the picture",
             Self::ModeOrLane => "mode or lane is above 3",
             Self::Load => "a number of the load or its source's length is out of range",
@@ -123,6 +128,7 @@ impl fmt::Display for Refusal {
             Self::Texels => "the file has fewer texel bytes than its header calls for",
             Self::Count => "there are more than 4,096 entries",
             Self::Entries => "the entries are not 4,117 bytes each, or the sides not one byte each",
+            Self::Number => "there were 65,535 loads, and no number is left for another",
             Self::Other(_) => "a refusal without a name",
         };
         write!(f, "refusal {}: {words}", self.number())

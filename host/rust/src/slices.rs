@@ -17,21 +17,25 @@ macro_rules! call {
     };
 }
 
-/// Calls a load of [`ffi`].
+/// Calls a load of [`ffi`], and takes over the number of the last load.
 macro_rules! load {
-    ($entry:ident($bank:ident, $written:ident, $source:ident, $tile:ident $(, $number:ident)*)) => {{
+    ($entry:ident($bank:ident, $written:ident, $source:ident, $tile:ident $(, $number:ident)*; $last:ident)) => {{
         // SAFETY: each pointer comes with its slice's length, and Rust's borrows do not overlap.
         let answer = unsafe {
             ffi::$entry(
                 $bank.as_mut_ptr(), $bank.len(), $written.as_mut_ptr(), $written.len(), $source.as_ptr(), $source.len(),
-                $tile.fmt, $tile.siz, $tile.line, $tile.tmem_addr $(, $number)*
+                $tile.fmt, $tile.siz, $tile.line, $tile.tmem_addr $(, $number)*, *$last
             )
         };
-        Refusal::check(answer.refusal, Loaded { count: answer.count, made_up: answer.made_up })
+        *$last = answer.number;
+        let loaded = Loaded { count: answer.count, made_up: answer.made_up, number: answer.number };
+        Refusal::check(answer.refusal, loaded)
     }};
 }
 
-/// Answers the count of stores, and how many of their bytes were made up.
+/// Answers the count of stores, how many of their bytes were made up, and the load's number. `last` is the number of the last load
+/// before and after the call; a refused one leaves it.
+#[allow(clippy::too_many_arguments)]
 pub fn load_block(
     bank: &mut [u8],
     written: &mut [u8],
@@ -40,11 +44,12 @@ pub fn load_block(
     image_siz: u32,
     dxt: u32,
     words: u32,
+    last: &mut u32,
 ) -> Result<Loaded, Refusal> {
-    load!(tk_load_block(bank, written, source, tile, image_siz, dxt, words))
+    load!(tk_load_block(bank, written, source, tile, image_siz, dxt, words; last))
 }
 
-/// Answers the count of stores, and how many of their bytes were made up.
+/// Answers as [`load_block`] does.
 #[allow(clippy::too_many_arguments)]
 pub fn load_tile(
     bank: &mut [u8],
@@ -55,11 +60,12 @@ pub fn load_tile(
     rows: u32,
     words: u32,
     stride: u32,
+    last: &mut u32,
 ) -> Result<Loaded, Refusal> {
-    load!(tk_load_tile(bank, written, source, tile, image_siz, rows, words, stride))
+    load!(tk_load_tile(bank, written, source, tile, image_siz, rows, words, stride; last))
 }
 
-/// Answers the count of stores, and how many of their bytes were made up.
+/// Answers as [`load_block`] does.
 #[allow(clippy::too_many_arguments)]
 pub fn load_tlut(
     bank: &mut [u8],
@@ -70,8 +76,9 @@ pub fn load_tlut(
     count: u32,
     rows: u32,
     stride: u32,
+    last: &mut u32,
 ) -> Result<Loaded, Refusal> {
-    load!(tk_load_tlut(bank, written, source, tile, image_siz, count, rows, stride))
+    load!(tk_load_tlut(bank, written, source, tile, image_siz, count, rows, stride; last))
 }
 
 /// Answers which picture the tile calls for.
@@ -134,10 +141,10 @@ pub fn reach(tile: &Tile, map: &mut [u8]) -> Result<(), Refusal> {
     Refusal::check(call!(tk_reach(tile, [mut map])), ())
 }
 
-/// Answers whether reach and the written map meet.
+/// Answers whether the tile reaches an address that the written record has a number at.
 pub fn tile_has_load(tile: &Tile, written: &[u8]) -> Result<bool, Refusal> {
-    let (map, length) = (written.as_ptr(), written.len());
-    let answer = call!(tk_tile_has_load(tile, map, length));
+    let (record, length) = (written.as_ptr(), written.len());
+    let answer = call!(tk_tile_has_load(tile, record, length));
     Refusal::check(answer.refusal, answer.yes == 1)
 }
 
@@ -153,8 +160,16 @@ pub fn key(bank: &[u8], tile: &Tile, lane: u32, key: &mut [u8]) -> Result<u32, R
     counted(call!(tk_key([bank], tile, lane, [mut key])))
 }
 
-/// Does a record of a capture, and answers the count of its stores, or of the bytes that its key would keep.
-pub fn replay_record(bank: &mut [u8], written: &mut [u8], record: &[u8], end: u64, part: &[u8]) -> Result<u32, Refusal> {
+/// Does a record of a capture, and answers the count of its stores, or of the bytes that its key would keep. `last` is the number of the
+/// last load before and after it; a key and a refused record leave it.
+pub fn replay_record(
+    bank: &mut [u8],
+    written: &mut [u8],
+    record: &[u8],
+    end: u64,
+    part: &[u8],
+    last: &mut u32,
+) -> Result<u32, Refusal> {
     // SAFETY: each pointer comes with its slice's length, and Rust's borrows do not overlap.
     let answer = unsafe {
         ffi::tk_replay_record(
@@ -167,9 +182,11 @@ pub fn replay_record(bank: &mut [u8], written: &mut [u8], record: &[u8], end: u6
             end,
             part.as_ptr(),
             part.len(),
+            *last,
         )
     };
-    counted(answer)
+    *last = answer.number;
+    Refusal::check(answer.refusal, answer.count)
 }
 
 /// Overwrites the sides of `count` entries, 0 for tuning and 1 for held out, and answers how many entries are on each.

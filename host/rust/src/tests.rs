@@ -6,9 +6,9 @@ fn rising(n: u8) -> Vec<u8> {
     (0..n).collect()
 }
 
-/// What a load answers that is not refused.
+/// What the first load of a bank answers that is not refused.
 fn loaded(count: u32, made_up: u32) -> Result<Loaded, Refusal> {
-    Ok(Loaded { count, made_up })
+    Ok(Loaded { count, made_up, number: 1 })
 }
 
 #[test]
@@ -17,7 +17,7 @@ fn block_swaps_the_halves_of_odd_rows() {
     let tile = Tile { siz: 2, ..Tile::default() };
     assert_eq!(bank.load_block(&rising(16), &tile, 2, 2048, 2), loaded(16, 0));
     assert_eq!(bank.bytes()[8..16], [12, 13, 14, 15, 8, 9, 10, 11]);
-    assert_eq!(bank.written().iter().collect::<Vec<_>>(), (0..16).collect::<Vec<_>>());
+    assert_eq!(bank.written().addresses().collect::<Vec<_>>(), (0..16).collect::<Vec<_>>());
 }
 
 #[test]
@@ -35,7 +35,7 @@ fn a_short_source_reads_as_zero() {
     let tile = Tile { siz: 2, ..Tile::default() };
     assert_eq!(bank.load_tile(&[1, 2, 3], &tile, 2, 1, 1, 0), loaded(8, 5));
     assert_eq!(bank.bytes()[..9], [1, 2, 3, 0, 0, 0, 0, 0, 7]);
-    assert_eq!(bank.load_tile(&[], &tile, 2, 1, 1, 0), loaded(8, 8));
+    assert_eq!(bank.load_tile(&[], &tile, 2, 1, 1, 0), Ok(Loaded { count: 8, made_up: 8, number: 2 }));
     assert_eq!(bank.bytes()[..9], [0, 0, 0, 0, 0, 0, 0, 0, 7]);
 }
 
@@ -337,7 +337,7 @@ fn a_replay_carries_the_bank_from_record_to_record() {
     assert_eq!(bank, Bank::new());
     assert_eq!(bank.replay_record(&block_record(2, 8), 12, &companion[2..]), Ok(8));
     assert_eq!(bank.bytes()[..9], [3, 4, 3, 5, 3, 4, 5, 5, 0]);
-    assert_eq!(bank.written().iter().collect::<Vec<_>>(), (0..8).collect::<Vec<_>>());
+    assert_eq!(bank.written().addresses().collect::<Vec<_>>(), (0..8).collect::<Vec<_>>());
     let loaded = bank.clone();
     assert_eq!(bank.replay_record(&key_record(8), 12, &[]), Ok(8 + 6)); // of entries 3, 4 and 5
     assert_eq!(bank, loaded);
@@ -434,5 +434,6 @@ fn refusals_have_their_numbers() {
         assert_eq!(Refusal::from_number(number).unwrap().number(), number);
     }
     assert_eq!(Refusal::from_number(0), None);
+    assert_eq!(Refusal::Number.number(), 18);
     assert_eq!(Refusal::Texels.to_string(), "refusal 15: the file has fewer texel bytes than its header calls for");
 }

@@ -1,5 +1,5 @@
 //! A run's input: the records of a capture, and what stands in their companion file.
-use crate::case::Fill;
+use crate::case::{Call, Case, Fill};
 use original::calls::Load;
 use std::fmt;
 use std::ops::Range;
@@ -86,16 +86,22 @@ impl Record {
         self.set(&[(place::TMEM_ADDR, tile.tmem_addr), (place::WIDTH, tile.width), (place::HEIGHT, tile.height)]);
     }
 
+    /// What it asks for, as a case of the own call of that; none if its kind is unknown.
+    pub fn case(&self) -> Option<Case> {
+        let (words, rows, stride) = (self.get(place::WORDS), self.get(place::ROWS), self.get(place::STRIDE));
+        let (call, numbers) = match self.kind() {
+            BLOCK => (Call::LoadBlock, [self.get(place::DXT), words, 0]),
+            TILE => (Call::LoadTile, [rows, words, stride]),
+            TLUT => (Call::LoadTlut, [self.get(place::COUNT), rows, stride]),
+            KEY => (Call::Key, [0; 3]),
+            _ => return None,
+        };
+        Some(Case { lane: self.lane(), image_siz: self.image_siz(), numbers, ..Case::new(call, self.tile()) })
+    }
+
     /// The load's own numbers; none if it is no load.
     pub fn load(&self) -> Option<Load> {
-        let number = |place| self.get(place) as usize;
-        let (words, rows, stride) = (number(place::WORDS), number(place::ROWS), number(place::STRIDE));
-        match self.kind() {
-            BLOCK => Some(Load::Block { dxt: self.get(place::DXT), words }),
-            TILE => Some(Load::Tile { rows, words, stride }),
-            TLUT => Some(Load::Tlut { count: number(place::COUNT), rows, stride }),
-            _ => None,
-        }
+        self.case().filter(|case| case.call != Call::Key).map(|case| case.load())
     }
 
     pub fn offset(&self) -> u64 {
@@ -143,6 +149,9 @@ pub const END_BYTES: u64 = 1 << 17;
 /// By what a run is replayed.
 #[derive(Clone, Copy, Debug, PartialEq, Eq)]
 pub enum By {
+    /// The own call of each load and key. Records that no such call stands for are left out: of an unknown kind, and with a source
+    /// beyond the companion.
+    OwnCalls,
     /// A call of the archive for each record.
     Call,
     /// The compiled program.
@@ -156,6 +165,8 @@ pub struct Run {
     pub records: Vec<Record>,
     /// The bytes of a torn record behind them, fewer than [`RECORD_BYTES`].
     pub tail: Vec<u8>,
+    /// The number of the load before the first. The program begins with 0.
+    pub last: u32,
     pub companion: Companion,
 }
 
@@ -175,7 +186,7 @@ impl Run {
 
 impl fmt::Display for Run {
     fn fmt(&self, f: &mut fmt::Formatter<'_>) -> fmt::Result {
-        writeln!(f, "  replayed by: {:?}", self.by)?;
+        writeln!(f, "  replayed by: {:?}, last: {}", self.by, self.last)?;
         for (i, record) in self.records.iter().enumerate() {
             writeln!(f, "  record {i}: {record}")?;
         }

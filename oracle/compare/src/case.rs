@@ -37,6 +37,8 @@ pub struct Case {
     /// dxt and words; or rows, words and stride; or count, rows and stride. For `TileHasLoad`: the word address, words and
     /// rows of the tile load that writes before the question.
     pub numbers: [u32; 3],
+    /// The number of the load before.
+    pub last: u32,
     pub source_length: u32,
     /// How many bytes longer than needed picture and trail are; -1 for a picture one byte short, -2 for a trail.
     pub surplus: i32,
@@ -71,6 +73,7 @@ impl Case {
             lane: 0,
             image_siz: 0,
             numbers: [0; 3],
+            last: 0,
             source_length: 0,
             surplus: 0,
             fill: Fill::Random,
@@ -118,6 +121,7 @@ impl Case {
             siz,
             &mut self.lane,
             &mut self.image_siz,
+            &mut self.last,
             &mut self.source_length,
         ];
         numbers.extend(self.numbers.iter_mut());
@@ -154,7 +158,7 @@ impl fmt::Display for Case {
         writeln!(f, "  call: {:?}", self.call)?;
         writeln!(f, "  {:?}", self.tile)?;
         writeln!(f, "  lane: {}, image_siz: {}, numbers: {a}, {b}, {c}", self.lane, self.image_siz)?;
-        writeln!(f, "  source: {} bytes, surplus: {}", self.source_length, self.surplus)?;
+        writeln!(f, "  last: {}, source: {} bytes, surplus: {}", self.last, self.source_length, self.surplus)?;
         write!(f, "  bank and source: {:?}, seed {}", self.fill, self.seed)
     }
 }

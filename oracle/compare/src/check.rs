@@ -1,6 +1,7 @@
 //! One case, done by the original and by the archive: answers, buffers, and bytes that must not have changed.
 use crate::case::{descriptor, Call, Case, Fill};
 use crate::input::Input;
+use crate::numbers::{self, Written};
 use crate::program::Program;
 use crate::random::Random;
 use crate::replay;
@@ -92,22 +93,26 @@ impl Workspace {
     fn load(&mut self, case: &Case) -> Result<Amount, String> {
         let source = &mut self.source[..case.source_length as usize];
         fill(source, case.fill, case.seed + 1);
-        let mut before = [0; 512];
-        fill(&mut before, case.fill, case.seed + 2);
-        let (mut bank, mut written) = (self.bank.clone(), before);
-        let answer = archive_load(&mut bank[..], &mut written, source, case);
-
-        let mut memory = Memory::new(&self.bank);
         let untouched = source.to_vec();
+        let before = numbers::found(case.fill, case.seed + 2);
+        let (mut bank, mut written, mut last) = (self.bank.clone(), before, case.last);
+        let answer = archive_load(&mut bank[..], &mut written, source, case, &mut last);
+        same("the source", &untouched, source)?;
+
+        let Some(number) = numbers::after(case.last) else {
+            same_answer(Err(Refusal::Number), answer)?;
+            same_number(case.last, last)?;
+            same("the bank", &self.bank[..], &bank[..])?;
+            same("the written record", &before, &written)?;
+            return Ok(Amount { refused: 1, ..Amount::default() });
+        };
+        let mut memory = Memory::new(&self.bank);
         let image_siz = case.image_siz as u8;
         let counted = memory.load_counted(&untouched, &descriptor(&case.tile), image_siz, case.load());
-        same_loaded(&counted, answer)?;
+        same_loaded(&counted, number, answer)?;
+        same_number(number, last)?;
         same("the bank", &memory.bytes()[..], &bank[..])?;
-        for (before, mark) in before.iter_mut().zip(counted.marks) {
-            *before |= mark;
-        }
-        same("the written map", &before, &written)?;
-        same("the source", &untouched, source)?;
+        same_record(&before, &counted.marks, number, &written)?;
         self.loads += 1;
         if self.loads.is_multiple_of(OWN_MAP_EVERY) {
             same("the original's own map and the addresses that it stored to", &memory.written(), &counted.marks)?;
@@ -184,13 +189,19 @@ impl Workspace {
     }
 }
 
-/// The archive's load.
-fn archive_load(bank: &mut [u8], written: &mut [u8], source: &[u8], case: &Case) -> Result<Loaded, Refusal> {
+/// The archive's load, after one of the number `last`.
+pub fn archive_load(
+    bank: &mut [u8],
+    written: &mut [u8],
+    source: &[u8],
+    case: &Case,
+    last: &mut u32,
+) -> Result<Loaded, Refusal> {
     let [a, b, c] = case.numbers;
     match case.call {
-        Call::LoadBlock => slices::load_block(bank, written, source, &case.tile, case.image_siz, a, b),
-        Call::LoadTlut => slices::load_tlut(bank, written, source, &case.tile, case.image_siz, a, b, c),
-        _ => slices::load_tile(bank, written, source, &case.tile, case.image_siz, a, b, c),
+        Call::LoadBlock => slices::load_block(bank, written, source, &case.tile, case.image_siz, a, b, last),
+        Call::LoadTlut => slices::load_tlut(bank, written, source, &case.tile, case.image_siz, a, b, c, last),
+        _ => slices::load_tile(bank, written, source, &case.tile, case.image_siz, a, b, c, last),
     }
 }
 
@@ -204,30 +215,34 @@ fn sampling(case: &Case) -> Result<Amount, String> {
 fn has_load(case: &Case) -> Result<Amount, String> {
     let [tmem_addr, words, rows] = case.numbers;
     let loaded = Tile { tmem_addr, ..case.tile };
-    let (mut bank, mut written) = ([0; 4096], [0; 512]);
-    let answer = slices::load_tile(&mut bank, &mut written, &[], &loaded, case.image_siz, rows, words, 8);
+    let (mut bank, mut written, mut last) = ([0; 4096], numbers::FRESH, case.last);
+    let answer = slices::load_tile(&mut bank, &mut written, &[], &loaded, case.image_siz, rows, words, 8, &mut last);
 
     let mut memory = Memory::new(&bank);
     let load = Load::Tile { rows: rows as usize, words: words as usize, stride: 8 };
-    same_loaded(&memory.load_counted(&[], &descriptor(&loaded), case.image_siz as u8, load), answer)?;
+    let counted = memory.load_counted(&[], &descriptor(&loaded), case.image_siz as u8, load);
+    same_loaded(&counted, case.last + 1, answer)?;
     let yes = memory.tile_has_load(&descriptor(&case.tile), case.tile.mode as u8);
     same_answer(Ok(yes), slices::tile_has_load(&case.tile, &written))?;
     Ok(Amount::default())
 }
 
-/// The archive's question against the original's reach, for maps that no load leaves: all but the reach, one address of it,
-/// and a few random ones.
+/// The archive's question against the original's reach, for records that no load leaves: all but the reach, one address of it,
+/// and a few random ones. Each is asked with numbers of which the one byte or the other is zero.
 fn has_load_of_reach(case: &Case, reach: &Map) -> Result<(), String> {
     let ask = |map: &Map| {
         let meets = reach.iter().zip(map).any(|(a, b)| a & b != 0);
-        same_answer(Ok(meets), slices::tile_has_load(&case.tile, map))
+        [1, 256].into_iter().try_for_each(|number| {
+            let mut written = numbers::FRESH;
+            numbers::store(&mut written, map, number);
+            same_answer(Ok(meets), slices::tile_has_load(&case.tile, &written))
+        })
     };
     ask(&reach.map(|byte| !byte))?;
     ask(&[0; 512])?;
     let mut random = Random::new(case.seed);
-    let marked = |address: usize| reach[address / 8] >> (address % 8) & 1 == 1;
-    let first = (0..4096).find(|&address| marked(address));
-    let last = (0..4096).rev().find(|&address| marked(address));
+    let first = (0..4096).find(|&address| numbers::is_marked(reach, address));
+    let last = (0..4096).rev().find(|&address| numbers::is_marked(reach, address));
     for address in [first, last, Some(random.to(4095) as usize), Some(random.to(4095) as usize)].into_iter().flatten() {
         let mut map = [0; 512];
         map[address / 8] = 1 << (address % 8);
@@ -293,8 +308,24 @@ pub fn same_answer<T: PartialEq + std::fmt::Debug>(
     Err(format!("the original asks for {original:?}, the archive answers {archive:?}"))
 }
 
-fn same_loaded(original: &Counted, archive: Result<Loaded, Refusal>) -> Result<(), String> {
-    same_answer(Ok(Loaded { count: original.stores, made_up: original.made_up }), archive)
+fn same_loaded(original: &Counted, number: u32, archive: Result<Loaded, Refusal>) -> Result<(), String> {
+    same_answer(Ok(Loaded { count: original.stores, made_up: original.made_up, number }), archive)
+}
+
+/// The number that is handed back.
+pub fn same_number(due: u32, archive: u32) -> Result<(), String> {
+    if due == archive {
+        return Ok(());
+    }
+    Err(format!("the last number is {due}, the archive hands back {archive}"))
+}
+
+/// The record after a load: its number where the original stored, else as before. And what is not zero, against the marks alone.
+fn same_record(before: &Written, stored: &Map, number: u32, archive: &Written) -> Result<(), String> {
+    let mut due = *before;
+    numbers::store(&mut due, stored, number);
+    same("the written record", &due, archive)?;
+    same("the written addresses", &numbers::either(&numbers::marks(before), stored), &numbers::marks(archive))
 }
 
 pub fn same(what: &str, original: &[u8], archive: &[u8]) -> Result<(), String> {

@@ -9,6 +9,7 @@ mod capture;
 mod case;
 mod check;
 mod input;
+mod numbers;
 mod program;
 mod random;
 mod replay;
@@ -32,7 +33,7 @@ struct Work {
 }
 
 /// The kinds of comparison, as they are printed.
-const KINDS: [&str; 14] = [
+const KINDS: [&str; 15] = [
     "block loads",
     "tile loads",
     "TLUT loads",
@@ -45,6 +46,7 @@ const KINDS: [&str; 14] = [
     "has-load after a load",
     "lane checks",
     "keys",
+    "calls in a row",
     "replayed records",
     "replayed by program",
 ];
@@ -53,7 +55,7 @@ fn kind(input: &Input) -> usize {
     use original::calls::Picture::{Lookup, Plain};
     let case = match input {
         Input::Case(case) => case,
-        Input::Run(run) => return 12 + usize::from(run.by == By::Program),
+        Input::Run(run) => return 12 + run.by as usize,
     };
     match case.call {
         Call::LoadBlock => 0,
@@ -91,7 +93,7 @@ fn main() -> ExitCode {
 fn run(deadline: Instant, seed: u64, program: &[String]) -> Vec<Work> {
     let workers = std::thread::available_parallelism().map_or(1, |count| count.get());
     let with_program = !program.is_empty();
-    let mut runs = sweep::runs(By::Call);
+    let mut runs = [sweep::runs(By::OwnCalls), sweep::runs(By::Call)].concat();
     if with_program {
         runs.extend(sweep::runs(By::Program));
     }

@@ -73,6 +73,7 @@ impl Random {
         match self.to(4095) {
             0 if program => Input::Run(self.run(By::Program)),
             0..=31 => Input::Run(self.run(By::Call)),
+            32..=47 => Input::Run(self.run(By::OwnCalls)),
             _ => {
                 let call = self.pick(&CALLS);
                 Input::Case(self.case(call))
@@ -102,8 +103,21 @@ impl Random {
         if call == Call::LoadTlut && self.to(1) == 0 {
             case.numbers[1] = 1;
         }
+        case.last = match call {
+            Call::TileHasLoad => self.near(65534),
+            _ => self.last(),
+        };
         case.source_length = self.source_length(case.pieces());
         case
+    }
+
+    /// The number of the load before: mostly one that leaves some, else one that leaves few or none.
+    fn last(&mut self) -> u32 {
+        match self.to(7) {
+            0 => 65536 - self.to(32),
+            1 => 65535 + self.near(u32::MAX - 65535),
+            _ => self.near(65534),
+        }
     }
 
     /// A source's length: beside what the load asks for, at or inside one of its pieces, or any.
@@ -132,7 +146,8 @@ impl Random {
         let records = (0..count).map(|_| self.record(by, length)).collect();
         let torn = if self.to(1) == 0 { 0 } else { self.near(RECORD_BYTES as u32 - 1) as usize };
         let tail = self.record(by, length).bytes[..torn].to_vec();
-        Run { by, records, tail, companion }
+        let last = if by == By::Program { 0 } else { self.last() };
+        Run { by, records, tail, last, companion }
     }
 
     /// A record: any bytes, then numbers in range in the fields that its kind takes, then a byte or more changed in some.

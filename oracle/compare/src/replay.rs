@@ -1,7 +1,8 @@
 //! One run of records, done by the original's loads and keys, and by the archive or the program.
 use crate::capture::{By, Companion, Record, Run, END_BYTES, KEY, RECORD_BYTES};
-use crate::case::descriptor;
-use crate::check::{fill, same, same_answer, Amount, BEFORE};
+use crate::case::{descriptor, Call};
+use crate::check::{archive_load, fill, same, same_answer, same_number, Amount, BEFORE};
+use crate::numbers::{self, Written};
 use crate::program::Program;
 use original::calls::{self, Load, Map, Memory};
 use tulonkasa::{slices, Refusal, Tile};
@@ -49,41 +50,61 @@ pub fn check(run: &Run, program: Option<&Program>) -> Result<Amount, String> {
     let file = File::new(&run.companion);
     match (run.by, program) {
         (By::Program, Some(program)) => by_program(run, &file, program),
-        _ => by_call(run, &file),
+        _ => by_calls(run, &file),
     }
 }
 
-fn by_call(run: &Run, file: &File) -> Result<Amount, String> {
-    let mut original = Original::new(file);
+fn by_calls(run: &Run, file: &File) -> Result<Amount, String> {
+    let mut original = Original::new(file, run.last);
     let mut amount = Amount::default();
-    let (mut bank, mut written) = ([0; 4096], [0; 512]);
+    let (mut bank, mut written, mut last) = ([0; 4096], numbers::FRESH, run.last);
     let bytes = run.bytes();
     // What follows a record is lent with it.
     let lent = |i: usize| &bytes[i * RECORD_BYTES..];
     for (i, record) in run.records.iter().enumerate() {
         let due = original.replay(record);
+        if run.by == By::OwnCalls && matches!(due, Err(Refusal::Kind | Refusal::Beyond)) {
+            continue;
+        }
         // Past the companion's end other bytes are lent, so that it is the end that is refused.
         let mut part = file.part(record.offset(), lent_part(record));
         part.resize(lent_part(record) as usize, BEFORE);
-        let answer = slices::replay_record(&mut bank, &mut written, lent(i), file.length, &part);
+        let answer = match run.by {
+            By::OwnCalls => own_call(&mut bank, &mut written, record, &part, &mut last),
+            _ => slices::replay_record(&mut bank, &mut written, lent(i), file.length, &part, &mut last),
+        };
         same_answer(due, answer)
+            .and_then(|()| same_number(original.last, last))
             .and_then(|()| same("the bank", &original.memory.bytes()[..], &bank))
-            .and_then(|()| same("the written map", &original.written, &written))
+            .and_then(|()| same("the written record", &original.written, &written))
+            .and_then(|()| same("the written addresses", &original.marks, &numbers::marks(&written)))
             .map_err(|why| format!("record {i}: {why}"))?;
         amount += counted(record, due);
     }
-    if !run.tail.is_empty() {
-        let answer = slices::replay_record(&mut bank, &mut written, lent(run.records.len()), file.length, &file.front);
+    if run.by == By::Call && !run.tail.is_empty() {
+        let tail = lent(run.records.len());
+        let answer = slices::replay_record(&mut bank, &mut written, tail, file.length, &file.front, &mut last);
         same_answer(Err(Refusal::Torn), answer)?;
         amount += torn();
     }
+    same_number(original.last, last)?;
     same("the bank at the end", &original.memory.bytes()[..], &bank)?;
-    same("the original's own map", &original.memory.written(), &written)?;
+    same("the written record at the end", &original.written, &written)?;
+    same("the original's own map", &original.memory.written(), &numbers::marks(&written))?;
     Ok(amount)
 }
 
+/// The load or key of a record, by its own call.
+fn own_call(bank: &mut [u8], written: &mut [u8], record: &Record, part: &[u8], last: &mut u32) -> Result<u32, Refusal> {
+    let case = record.case().ok_or(Refusal::Kind)?;
+    if case.call == Call::Key {
+        return slices::key(bank, &case.tile, case.lane, &mut [0; 4096]);
+    }
+    archive_load(bank, written, part, &case, last).map(|loaded| loaded.count)
+}
+
 fn by_program(run: &Run, file: &File, program: &Program) -> Result<Amount, String> {
-    let mut original = Original::new(file);
+    let mut original = Original::new(file, 0);
     let mut amount = Amount::default();
     let mut due = String::new();
     for record in &run.records {
@@ -104,16 +125,18 @@ fn by_program(run: &Run, file: &File, program: &Program) -> Result<Amount, Strin
     Err(format!("line, due and printed: {differ:?}"))
 }
 
-/// The original's memory, which is carried from record to record.
+/// The original's memory, which is carried from record to record, and which load stored last at each of its addresses.
 struct Original<'a> {
     memory: Memory,
-    written: Map,
+    marks: Map,
+    written: Written,
+    last: u32,
     file: &'a File,
 }
 
 impl<'a> Original<'a> {
-    fn new(file: &'a File) -> Self {
-        Self { memory: Memory::fresh(), written: [0; 512], file }
+    fn new(file: &'a File, last: u32) -> Self {
+        Self { memory: Memory::fresh(), marks: [0; 512], written: numbers::FRESH, last, file }
     }
 
     /// Does a record, and gives back what is due for it.
@@ -126,15 +149,18 @@ impl<'a> Original<'a> {
             let key = calls::key(&self.memory.bytes(), &descriptor(&tile), tile.mode as u8, record.lane() as usize);
             return key.map(|(_, kept)| kept).ok_or(Refusal::Pair);
         };
+        let number = numbers::after(self.last).ok_or(Refusal::Number)?;
         let source = self.file.part(record.offset(), record.length());
         let image_siz = record.image_siz() as u8;
         let counted = self.memory.load_counted(&source, &descriptor(&tile), image_siz, load);
-        self.written.iter_mut().zip(counted.marks).for_each(|(byte, marks)| *byte |= marks);
+        self.marks = numbers::either(&self.marks, &counted.marks);
+        numbers::store(&mut self.written, &counted.marks, number);
+        self.last = number;
         Ok(counted.stores)
     }
 }
 
-/// The refusal that documents 01 and 02 ask for. Of refusal 5 the original is asked.
+/// The refusal that documents 01 and 02 ask for. Of refusal 5 the original is asked, and 18 comes after these.
 fn refusal(record: &Record, end: u64) -> Option<Refusal> {
     let Tile { fmt, siz, palette, mode, cms, cmt, masks, maskt, line, tmem_addr, width, height } = record.tile();
     let load_fields = fmt > 7 || siz > 3 || line > 511 || tmem_addr > 511;

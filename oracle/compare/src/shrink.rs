@@ -58,9 +58,10 @@ fn smaller_runs(run: &Run) -> impl Iterator<Item = Run> + '_ {
     );
     let tails = smaller_numbers(run.tail.len() as u64)
         .map(|length| Run { tail: run.tail[..length as usize].to_vec(), ..run.clone() });
+    let lasts = smaller_numbers(run.last.into()).map(|last| Run { last: last as u32, ..run.clone() });
     let companions = smaller_companions(run.companion).map(|companion| Run { companion, ..run.clone() });
     let bytes = (0..count).flat_map(move |i| smaller_records(run, i));
-    fewer.chain(tails).chain(companions).chain(bytes)
+    fewer.chain(tails).chain(lasts).chain(companions).chain(bytes)
 }
 
 /// Runs with one thing of one record smaller.

@@ -1,6 +1,7 @@
 //! Cases by structure: every pair, mode and lane with the limits of the sizes, tiles that repeat, the limits of every load, small loads
-//! from sources of every length.
-//! Runs of records: the limits of every number, several faults at a time, keys of tiles that repeat, and sources at the companion's end.
+//! from sources of every length, and with every kind of last number.
+//! Runs of records: the limits of every number, several faults at a time, keys of tiles that repeat, sources at the companion's end, and
+//! loads over each other's bytes until no number is left.
 use crate::capture::place::*;
 use crate::capture::{By, Companion, Record, Run, BLOCK, KEY, RECORD_BYTES, TILE, TLUT};
 use crate::case::{Call, Case, Fill};
@@ -73,6 +74,9 @@ const SMALL_LOADS: [(Call, [u32; 3]); 10] = [
 /// Loads that ask for bytes on both sides of the longest source's end.
 const FAR_LOADS: [(Call, [u32; 3]); 2] = [(Call::LoadTile, [2, 2, 65525]), (Call::LoadTlut, [8, 2, 65525])];
 
+/// Numbers of the load before.
+const LASTS: [u32; 13] = [0, 1, 254, 255, 256, 257, 65278, 65279, 65533, 65534, 65535, 65536, u32::MAX];
+
 pub const PICTURES: [Call; 4] = [
     Call::Picture { which: Picture::Plain, observed: false },
     Call::Picture { which: Picture::Plain, observed: true },
@@ -88,6 +92,7 @@ pub fn cases() -> Vec<Case> {
     buffers(&mut cases);
     loads(&mut cases);
     cut_sources(&mut cases);
+    last_numbers(&mut cases);
     loads_in_reach(&mut cases);
     banks(&mut cases);
     cases
@@ -234,6 +239,22 @@ fn cut_sources(cases: &mut Vec<Case>) {
     }
 }
 
+/// Small loads after loads of numbers at which a byte of the next is full or zero, of the last ones, and past them; in a fresh record
+/// and in one of any numbers.
+fn last_numbers(cases: &mut Vec<Case>) {
+    for pair in [1, 2, 3, 6] {
+        for image_siz in 0..4 {
+            let tile = Tile { fmt: pair / 4, siz: pair % 4, line: 2, tmem_addr: 250, ..Tile::default() };
+            for (call, numbers) in SMALL_LOADS {
+                for fill in [Fill::Zero, Fill::Random] {
+                    let case = Case { image_siz, numbers, fill, source_length: 20, ..Case::new(call, tile) };
+                    cases.extend(LASTS.map(|last| Case { last, ..case }));
+                }
+            }
+        }
+    }
+}
+
 /// One word loaded before, at the start of, inside, at the end of and behind what a tile reaches.
 fn loads_in_reach(cases: &mut Vec<Case>) {
     for pair in 0..32 {
@@ -242,7 +263,8 @@ fn loads_in_reach(cases: &mut Vec<Case>) {
                 let (width, line) = (9, 2);
                 let tile = Tile { fmt: pair / 4, siz: pair % 4, mode, tmem_addr, width, height, line, ..Tile::default() };
                 for word in (0..9).map(|ahead| (tmem_addr + 511 + ahead) % 512) {
-                    cases.push(Case { image_siz: 2, numbers: [word, 1, 1], ..Case::new(Call::TileHasLoad, tile) });
+                    let case = Case { image_siz: 2, numbers: [word, 1, 1], ..Case::new(Call::TileHasLoad, tile) };
+                    cases.extend([0, 255].map(|last| Case { last, ..case }));
                 }
             }
         }
@@ -303,7 +325,7 @@ const LENGTHS: [u32; 7] = [0, 1, 8, 65535, 65536, 65537, u32::MAX];
 pub fn runs(by: By) -> Vec<Run> {
     let run = |records, length, torn| {
         let companion = Companion { length, fill: Fill::Random, seed: 7 };
-        Run { by, records, tail: vec![0; torn], companion }
+        Run { by, records, tail: vec![0; torn], last: 0, companion }
     };
     let mut runs = vec![run(vec![], 8, 0), run(vec![], 8, 1)];
     for kind in [BLOCK, TILE, TLUT, KEY] {
@@ -312,7 +334,35 @@ pub fn runs(by: By) -> Vec<Run> {
     }
     runs.push(run(repeating_keys(), 5000, 0));
     runs.extend(ENDS.map(|end| run(sources(end), end, 0)));
+    if by == By::Program {
+        runs.push(run(in_turns(65535 + 20), 1000, 1));
+    } else {
+        runs.extend(LASTS.map(|last| Run { last, ..run(in_turns(30), 1000, 1) }));
+        for kind in [BLOCK, TILE, TLUT, KEY] {
+            runs.extend([65534, 65535, u32::MAX].map(|last| Run { last, ..run(faults(kind), 1000, 24) }));
+        }
+    }
     runs
+}
+
+/// So many loads of all kinds, which store over each other's bytes, and of which some store nothing; with keys and refused records
+/// among them.
+fn in_turns(loads: u32) -> Vec<Record> {
+    let turn = |i: u32| {
+        let kind = i % 3;
+        let place = (TMEM_ADDR, i * 7 % 61);
+        let load = match i % 5 {
+            0 => plain(BLOCK, &[place, (WORDS, 0)]),
+            _ => plain(kind, &[place, (WORDS, 1 + i % 3)]),
+        };
+        let refused = plain(kind, &[place, (IMAGE_SIZ, 4)]);
+        match i % 8 {
+            3 => vec![refused, load],
+            6 => vec![load, plain(KEY, &[])],
+            _ => vec![load],
+        }
+    };
+    (0..loads).flat_map(turn).collect()
 }
 
 /// A record whose numbers suit every kind.

@@ -8,15 +8,18 @@ const RECORD: usize = 48;
 /// A load's source has at most this many bytes.
 const SOURCE_MOST: usize = 65536;
 
+/// So many loads have numbers.
+const LOADS_MOST: u32 = 65535;
+
 fn main() -> io::Result<()> {
     let path = env::args_os().nth(1).expect("the companion file's name");
     let companion = fs::read(path)?;
-    let mut memory = Memory::fresh();
-    answer_all(|record| replay(record, &companion, &mut memory).map(|count| [count]))
+    let (mut memory, mut loads) = (Memory::fresh(), 0);
+    answer_all(|record| replay(record, &companion, &mut memory, &mut loads).map(|count| [count]))
 }
 
 /// Does a record. The count of its stores, or for a key of its kept bytes, or the refusal.
-fn replay(record: &[u8; RECORD], companion: &[u8], memory: &mut Memory) -> Result<u32, u32> {
+fn replay(record: &[u8; RECORD], companion: &[u8], memory: &mut Memory, loads: &mut u32) -> Result<u32, u32> {
     let (kind, lane, head) = (record[0], record[1], Head::new(&record[2..]));
     if kind == 3 {
         return head.kept(&memory.bytes(), lane);
@@ -31,6 +34,10 @@ fn replay(record: &[u8; RECORD], companion: &[u8], memory: &mut Memory) -> Resul
         return Err(refusal::LOAD);
     }
     let source = companion.get(offset..offset + length).ok_or(refusal::BEYOND)?;
+    if *loads == LOADS_MOST {
+        return Err(refusal::NUMBER);
+    }
+    *loads += 1;
     memory.load(source, &head.tile, image_siz as u8, load);
     Ok(stores(load, image_siz) as u32)
 }

@@ -7,7 +7,7 @@ use Rattle.cases.proofs.run_all.Statement.{statement}
 use Rattle.cases.proofs.run_all.Tie as tie
 
 abbrev Inv-loop : tie.InvT-loop
-Inv-loop text i₀ i-end i = (i-end ≡ length text / 172) × (i ≤ i-end)
+Inv-loop text i₀ i-end i = (i-end ≡ length text / 178) × (i ≤ i-end)
 
 abbrev μ-loop : tie.MeasureT-loop
 μ-loop text i₀ i-end i = i-end - i

@@ -12,7 +12,7 @@ use Rattle.replay.proofs.replay_all.Statement.{statement}
 use Rattle.replay.proofs.replay_all.Tie as tie
 
 abbrev Inv-loop : tie.InvT-loop
-Inv-loop fd file-end bank₀ written₀ records₀ held₀ text₀ _ _ _ _ _ bank written records held text start size end more turns =
+Inv-loop fd file-end bank₀ written₀ records₀ held₀ text₀ _ _ _ _ _ _ bank written records held text start size end more last turns =
     (length bank ≡ length bank₀)
     × (length written ≡ length written₀)
     × (length records ≡ length records₀)
@@ -22,7 +22,7 @@ Inv-loop fd file-end bank₀ written₀ records₀ held₀ text₀ _ _ _ _ _ ban
     × (end + pieceRoom ≤ length text)
 
 abbrev μ-loop : tie.MeasureT-loop
-μ-loop fd file-end bank₀ written₀ records₀ held₀ text₀ _ _ _ _ _ bank written records held text start size end more turns = turns
+μ-loop fd file-end bank₀ written₀ records₀ held₀ text₀ _ _ _ _ _ _ bank written records held text start size end more last turns = turns
 
 -- in a turn there is a turn left
 left : (c : tie.In-loop Inv-loop μ-loop) → 0 < c .before .loop .turns

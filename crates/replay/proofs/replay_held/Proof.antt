@@ -16,7 +16,7 @@ near d =
     let a = s .args in
     let p = piece (a .file-end) (a .start) (a .held .now) in
     let free = take (length (a .text .now) - a .end) (drop (a .end) (a .text .now)) in
-    let inside = ran-inside (a .bank .now) (a .written .now) (a .rest .now) p free _ _ _ _ _ _ (d .replay-run .ensures)
+    let inside = ran-inside (a .bank .now) (a .written .now) (a .rest .now) p free (a .last) _ _ _ _ _ _ _ (d .replay-run .ensures)
     (d .replay-run .kept .1 .1 .1 .1 .1 .1 .0) in
     let few : length free ≤ length (a .text .now) - a .end = rw length-take (omega arith) in
     omega (arith, inside .1, s .pre)
@@ -36,8 +36,8 @@ replay-run-requires c κs = search needs
 bytes-of-requires : tie.Need-bytes-of-requires
 bytes-of-requires c κs = search needs
 
-add-t18 : tie.Need-add-t18
-add-t18 c = omega (arith, near (c .before .before .before .before .before .before .before .before))
+add-t19 : tie.Need-add-t19
+add-t19 c = omega (arith, near (c .before .before .before .before .before .before .before .before))
 
 same-length : tie.Need-same-length
 same-length c = search needs
@@ -60,7 +60,7 @@ replay-held-spec =
     part-replay-run-end
     replay-run-requires
     bytes-of-requires
-    add-t18
+    add-t19
     same-length
     same-length-2
     same-length-3

@@ -1,6 +1,6 @@
 -- `replay::replay_turn` keeps the places inside the records, the bytes that are held and the text. Assumes nothing.
 use mathlib.Core.Path.{sym}
-use Prim.Native.Nat.{_-_}
+use Prim.Native.Nat.{_-_, _≤_}
 use native.Mathlib.Omega.{arith}
 use lib.ListN.{length, drop, length-take}
 use lib.Seq.{length-take-le}
@@ -34,8 +34,23 @@ add-t18 c = search needs
 write-full-requires : tie.Need-write-full-requires
 write-full-requires c κs = search needs
 
+abbrev held : tie.After-write-full → tie.After-replay-held
+held w = w .before .before .before .before .before .before .before .before .before .before
+
+abbrev start : tie.After-write-full → tie.Start
+start w = held w .before .before .before .before .before .before .before .before .before .before .before
+
+-- the records that were replayed are the input's, and the same bytes are held
+kept : (w : tie.After-write-full) → let a = start w .args in
+    (w .write-full .result .at ≤ length (a .records .now)) × (w .write-full .result .size ≤ length (a .held .now))
+kept w =
+    let s = start w in
+    let rest = length-take (length (s .args .records .now) - s .args .step .at) (drop (s .args .step .at) (s .args .records .now)) in
+    let wrote = w .write-full .ensures in
+    (omega (arith, wrote .1 .0, held w .replay-held .ensures .0, rest, s .pre .0), omega (arith, wrote .1 .1, s .pre .1 .0))
+
 hold-next-requires : tie.Need-hold-next-requires
-hold-next-requires c κs = search needs
+hold-next-requires c κs = kept c
 
 same-length : tie.Need-same-length
 same-length c = search needs
@@ -53,13 +68,9 @@ returns : tie.Need-returns
 returns c =
     let n = c .before .before in
     let w = n .before in
-    let h = w .before .before .before .before .before .before .before .before .before .before in
-    let s = h .before .before .before .before .before .before .before .before .before .before .before in
-    let rest = length-take (length (s .args .records .now) - s .args .step .at) (drop (s .args .step .at) (s .args .records .now)) in
-    let kept = n .hold-next .ensures in
-    let wrote = w .write-full .ensures in (
-      omega (arith, kept .0, wrote .1 .0, h .replay-held .ensures .0, rest, s .pre .0),
-      (omega (arith, kept .2), omega (arith, kept .1, wrote .0, h .replay-held .kept .1 .1 .1 .1 .1 .1 .0)),
+    let next = n .hold-next .ensures in (
+      omega (arith, next .0, kept w .0),
+      (omega (arith, next .2), omega (arith, next .1, w .write-full .ensures .0, held w .replay-held .kept .1 .1 .1 .1 .1 .1 .0)),
     )
 
 pub replay-turn-spec : {M : Type 1} → statement M

@@ -5,7 +5,7 @@ use mathlib.Core.Bool.{false}
 use Prim.Native.Nat.{_≤_, _-_}
 use native.Mathlib.Omega.{arith}
 use borrow.Author.Needs.{needs}
-use Rattle.rules.specs.Base.{tab, concat, any, isMarked}
+use Rattle.rules.specs.Base.{tab, concat, any, isWritten}
 use Rattle.rules.specs.Reach.{reachRow, reachPlain}
 use Rattle.rdp.specs.View.{tileOf}
 use Rattle.reach.proofs.Joined.{none-yet, none-more, found}
@@ -15,7 +15,7 @@ use Rattle.reach.proofs.has_load.rows_meet.Tie as tie
 
 abbrev Inv-loop : tie.InvT-loop
 Inv-loop written tile tlut bytes rows y₀ y =
-    (y ≤ rows) × (any (isMarked written) (concat (tab y (reachRow (tileOf tile) tlut))) ≡ false)
+    (y ≤ rows) × (any (isWritten written) (concat (tab y (reachRow (tileOf tile) tlut))) ≡ false)
 
 abbrev μ-loop : tie.MeasureT-loop
 μ-loop written tile tlut bytes rows y₀ y = rows - y
@@ -40,7 +40,7 @@ span-meets-requires c κs = (c .before .before .before .before .before .before .
 -- what the test says, of the rule's row
 found-in : (c : tie.After-span-meets Inv-loop μ-loop) → let l = c .before .before .before in
     let e = l .before .before .before .before .args in
-    c .span-meets .result ≡ any (isMarked (e .written .now)) (reachRow (tileOf (e .tile)) (e .tlut) (l .loop .y))
+    c .span-meets .result ≡ any (isWritten (e .written .now)) (reachRow (tileOf (e .tile)) (e .tlut) (l .loop .y))
 found-in c = c .span-meets .ensures ∙ rw (c .before .of-row .ensures .0)
 
 returns : tie.Need-returns Inv-loop μ-loop

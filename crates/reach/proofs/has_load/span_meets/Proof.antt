@@ -5,7 +5,7 @@ use mathlib.Core.Bool.{false}
 use Prim.Native.Nat.{_-_, _≤_}
 use native.Mathlib.Omega.{arith}
 use borrow.Author.Needs.{needs}
-use Rattle.rules.specs.Base.{tab, concat, any, isMarked}
+use Rattle.rules.specs.Base.{tab, concat, any, isWritten}
 use Rattle.reach.proofs.Joined.{none-yet}
 use Rattle.reach.specs.Words.{wordMeets}
 use Rattle.reach.specs.Span.{reachedAt, reached, wordIn, bitsIn}
@@ -15,7 +15,7 @@ use Rattle.reach.proofs.has_load.span_meets.Tie as tie
 
 abbrev Inv-loop : tie.InvT-loop
 Inv-loop written span words w₀ w =
-    (w ≤ words) × (any (isMarked written) (concat (tab (cutAt span w) (reachedAt span))) ≡ false)
+    (w ≤ words) × (any (isWritten written) (concat (tab (cutAt span w) (reachedAt span))) ≡ false)
 
 abbrev μ-loop : tie.MeasureT-loop
 μ-loop written span words w₀ w = words - w

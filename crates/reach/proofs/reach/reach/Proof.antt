@@ -1,6 +1,7 @@
 -- `reach::reach::reach` answers and leaves the call's outcome. Assumes nothing.
 use mathlib.Core.Path.{_≡_, sym, _∙_}
 use borrow.Author.Needs.{needs}
+use Rattle.rules.specs.Tile.{mapSize}
 use Rattle.rules.specs.Refusal.{first}
 use Rattle.rules.specs.Calls.{mapTests, reachCall}
 use Rattle.rules.proofs.Refused.{refused-is, done-is}
@@ -10,7 +11,8 @@ use Rattle.reach.proofs.reach.reach.Statement.{statement}
 use Rattle.reach.proofs.reach.reach.Tie as tie
 
 -- what is known once there was no refusal
-zero : (c : tie.Else1) → let a = c .before .before .before .before .args in first (mapTests (a .map .now) (tileOf (a .tile)) (a .tlut)) ≡ 0
+zero : (c : tie.Else1) → let a = c .before .before .before .before .args in
+    first (mapTests mapSize (a .map .now) (tileOf (a .tile)) (a .tlut)) ≡ 0
 zero c = sym (c .before .map-refusal .ensures) ∙ c .if1 .left
 
 map-refusal-requires : tie.Need-map-refusal-requires
@@ -26,7 +28,7 @@ returns c = refused-is _ _ _ _ _ (c .before .map-refusal .ensures) (c .if1 .take
 mark-reach-requires : tie.Need-mark-reach-requires
 mark-reach-requires c κs =
     let a = c .before .before .before .before .before .args in
-    within (a .map .now) (tileOf (a .tile)) (a .tlut) (zero (c .before))
+    within mapSize (a .map .now) (tileOf (a .tile)) (a .tlut) (zero (c .before))
 
 same-length-2 : tie.Need-same-length-2
 same-length-2 c = search needs

@@ -4,12 +4,12 @@ use Rattle.reach.specs.Words.{meets}
 use Rattle.reach.proofs.word.meets.Statement.{statement}
 use Rattle.reach.proofs.word.meets.Tie as tie
 
-shared-slice-read-result : tie.Need-shared-slice-read-result
-shared-slice-read-result c = search needs
+word-marks-requires : tie.Need-word-marks-requires
+word-marks-requires c κs = search needs
 
 returns : tie.Need-returns
 unfolding meets
-returns c = search needs
+returns c = rw (c .word-marks .ensures)
 
 pub meets-spec : {M : Type 1} → statement M
-meets-spec = tie.close (tie.spec shared-slice-read-result returns)
+meets-spec = tie.close (tie.spec word-marks-requires returns)

@@ -44,7 +44,7 @@ returns c =
     let t = e .before in
     let a = t .before .before .before .before .before .args in
     d .replay-step .ensures
-    ∙ none-taken (a .end) (a .start) (a .held .now) (a .bytes .now) (carried (a .bank .now) (a .written .now))
+    ∙ none-taken (a .end) (a .start) (a .held .now) (a .bytes .now) (carried (a .bank .now) (a .written .now) (a .last))
     (sym (t .takes-part .ensures) ∙ not-true _ (e .if1 .taken))
 
 offset-in-requires : tie.Need-offset-in-requires
@@ -89,7 +89,7 @@ returns-2 c =
     let from = ap (λ n. n - a .start) (o .offset-in .ensures .0) in
     let to = ap (λ n. (o .offset-in .result - a .start) + n) (z .size-in .ensures .0) in
     d .replay-step2 .ensures
-    ∙ part-taken (a .end) (a .start) (a .held .now) (a .bytes .now) (carried (a .bank .now) (a .written .now)) _ _
+    ∙ part-taken (a .end) (a .start) (a .held .now) (a .bytes .now) (carried (a .bank .now) (a .written .now) (a .last)) _ _
     (takes (o .before)) from to
 
 pub replay-at-hand-spec : {M : Type 1} → statement M

@@ -64,14 +64,14 @@ returns c =
     let e = d .before .before .before .before in
     let a = start e .args in
     let p = piece (a .end) (a .start) (a .held .now) in
-    let m = carried (a .bank .now) (a .written .now) in
+    let m = carried (a .bank .now) (a .written .now) (a .at .last) in
     let o = d .replay-at-hand .ensures ∙ ap (λ r. inPiece p r m) (own e) in
     let t = w .put-line .ensures in
     record {
       carried-is = ap onward o;
-      ends = t .0 ∙ ap (λ o. a .at + length (lineText (lineIn o))) o;
+      ends = t .0 ∙ ap (λ o. a .at .end + length (lineText (lineIn o))) o;
       near = t .1 .0;
-      text-is = t .1 .1 ∙ ap (λ o. over (take (a .at) (a .out .now) ++ lineText (lineIn o)) (a .out .now)) o;
+      text-is = t .1 .1 ∙ ap (λ o. over (take (a .at .end) (a .out .now) ++ lineText (lineIn o)) (a .out .now)) o;
     }
 
 pub replay-next-spec : {M : Type 1} → statement M

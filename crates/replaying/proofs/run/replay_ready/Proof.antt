@@ -13,16 +13,16 @@ use Rattle.replaying.proofs.run.replay_ready.Statement.{statement}
 use Rattle.replaying.proofs.run.replay_ready.Tie as tie
 
 abbrev Inv-loop : tie.InvT-loop
-Inv-loop bank₀ written₀ input count end start held out₀ at₀ i₀ bank written out at i =
+Inv-loop bank₀ written₀ input count end start held out₀ last at₀ i₀ bank written out at i =
     (i ≤ count)
     × (length bank ≡ length bank₀)
     × (length written ≡ length written₀)
     × (length out ≡ length out₀)
-    × (at ≤ replayRoom * i)
-    × Run (piece end start held) (firstRecords input i) (carried bank₀ written₀) out₀ (carried bank written) out at
+    × (at .end ≤ replayRoom * i)
+    × Run (piece end start held) (firstRecords input i) (carried bank₀ written₀ last) out₀ (carried bank written (at .last)) out (at .end)
 
 abbrev μ-loop : tie.MeasureT-loop
-μ-loop bank₀ written₀ input count end start held out₀ at₀ i₀ bank written out at i = count - i
+μ-loop bank₀ written₀ input count end start held out₀ last at₀ i₀ bank written out at i = count - i
 
 abbrev start : tie.At-loop Inv-loop μ-loop → tie.Start Inv-loop μ-loop
 start l = l .before .before .before .before .before .before
@@ -67,7 +67,8 @@ loop-again c =
       kept .1 .0 ∙ l .loop .inv .2,
       kept .1 .1 .1 .1 .1 .1 .1 .0 ∙ l .loop .inv .3,
       omega (arith, done .near, l .loop .inv .4),
-      run-more p (s .args .input .now) (carried (s .args .bank .now) (s .args .written .now)) (s .args .out .now) (l .loop .i)
+      run-more p (s .args .input .now) (carried (s .args .bank .now) (s .args .written .now) (s .args .last)) (s .args .out .now)
+          (l .loop .i)
           _ _ _ _ _ _ (l .loop .inv .5) done,
     )
 

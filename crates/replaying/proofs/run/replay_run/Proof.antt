@@ -2,7 +2,7 @@
 use mathlib.Core.Path.{_≡_, sym, _∙_}
 use Rattle.rules.specs.Refusal.{first}
 use Rattle.rules.specs.Replay.{runTests, runCall, piece}
-use Rattle.rules.proofs.Refused.{refused-is}
+use Rattle.rules.proofs.Refused.{refused-or-is}
 use Rattle.replaying.proofs.Runs.{run-lent, run-done}
 use borrow.Author.Needs.{needs}
 use Rattle.replaying.proofs.run.replay_run.Statement.{statement}
@@ -29,7 +29,7 @@ same-length-3 c = search needs
 
 returns : tie.Need-returns
 unfolding runCall
-returns c = refused-is _ _ _ _ _ (c .before .run-refusal .ensures) (c .if1 .taken)
+returns c = refused-or-is _ _ _ _ _ _ (c .before .run-refusal .ensures) (c .if1 .taken)
 
 ready-count-requires : tie.Need-ready-count-requires
 ready-count-requires c κs = search needs
@@ -58,7 +58,7 @@ returns-2 c =
     let e = n .before in
     let a = start e .args in
     run-done (a .bank .now) (a .written .now) (a .input .now) (a .out .now) (passed e)
-    (piece (a .end) (a .start) (a .held .now)) _ _ _ _ _ (n .ready-count .ensures) (d .replay-ready .ensures)
+    (piece (a .end) (a .start) (a .held .now)) _ _ _ _ _ _ _ (n .ready-count .ensures) (d .replay-ready .ensures)
 
 pub replay-run-spec : {M : Type 1} → statement M
 replay-run-spec =

@@ -4,8 +4,8 @@ use native.Mathlib.Omega.{arith}
 use lib.ListN.{length-take}
 use lib.Seq.{length-take-le}
 use Rattle.rules.specs.Refusal.{first}
-use Rattle.rules.specs.Replay.{replayTests, replayCall, carried, outcome, ownTests}
-use Rattle.rules.proofs.Refused.{refused-is}
+use Rattle.rules.specs.Replay.{replayTests, replayCall, carried, tested, outcome, ownTests}
+use Rattle.rules.proofs.Refused.{refused-or-is}
 use Rattle.rules.proofs.ReplayTests.{call-outcome}
 use Rattle.rules.proofs.LentTests.{lent-passed}
 use Rattle.replaying.proofs.Held.{named-part}
@@ -18,7 +18,7 @@ start e = e .before .before .before .before .before .before .before .before
 
 -- no test failed
 accepted : (e : tie.Else1) → let a = start e .args in
-    first (replayTests (a .bank .now) (a .written .now) (a .bytes .now) (a .end) (a .part .now)) ≡ 0
+    first (replayTests (a .bank .now) (a .written .now) (a .bytes .now) (a .end) (a .part .now) (a .last)) ≡ 0
 accepted e = sym (e .before .replay-refusal .ensures) ∙ e .if1 .left
 
 replay-refusal-requires : tie.Need-replay-refusal-requires
@@ -31,8 +31,8 @@ same-length-2 : tie.Need-same-length-2
 same-length-2 c = search needs
 
 returns : tie.Need-returns
-unfolding replayCall
-returns c = refused-is _ _ _ _ _ (c .before .replay-refusal .ensures) (c .if1 .taken)
+unfolding replayCall tested
+returns c = refused-or-is _ _ _ _ _ _ (c .before .replay-refusal .ensures) (c .if1 .taken)
 
 named-requires : tie.Need-named-requires
 named-requires c κs = search needs
@@ -44,7 +44,7 @@ replay-step-requires : tie.Need-replay-step-requires
 replay-step-requires c κs =
     let n = c .before .before .before in
     let a = start (n .before) .args in (
-      lent-passed (a .bank .now) (a .written .now) (ownTests (a .end) (a .bytes .now) (a .part .now)) (accepted (n .before)) .0,
+      lent-passed (a .bank .now) (a .written .now) (ownTests (a .end) (a .bytes .now) (a .part .now) (a .last)) (accepted (n .before)) .0,
       rw length-take (omega (arith, n .named .ensures)),
     )
 
@@ -61,8 +61,8 @@ returns-2 c =
     let a = start (n .before) .args in
     let own = named-part (a .bytes .now) (a .part .now) _ (n .named .ensures) in
     d .replay-step .ensures
-    ∙ ap (λ l. outcome (a .end) l (a .bytes .now) (carried (a .bank .now) (a .written .now))) own
-    ∙ call-outcome (a .bank .now) (a .written .now) (a .bytes .now) (a .end) (a .part .now) (accepted (n .before))
+    ∙ ap (λ l. outcome (a .end) l (a .bytes .now) (carried (a .bank .now) (a .written .now) (a .last))) own
+    ∙ call-outcome (a .bank .now) (a .written .now) (a .bytes .now) (a .end) (a .part .now) (a .last) (accepted (n .before))
 
 pub replay-record-spec : {M : Type 1} → statement M
 replay-record-spec =

@@ -42,9 +42,10 @@ returns c =
     let src = s .args .src .now in
     let asked = a .asked-in .result in
     let says = a .asked-in .ensures in
-    let passed = ap (λ o. first (numberTests (length src) (tileIn b) (imageIn b) o [])) (says .0) ∙ s .pre .1 .1 in
-    let answer = d .load .ensures ∙ (λ i. askedCall bank map src (t .tile-in .ensures i) (m .image-in .ensures i) asked) in
-    let loaded = loaded-is bank map src (tileIn b) (imageIn b) asked (s .pre .0 .0) (s .pre .0 .1) passed _ _ _ _ _ answer in
+    let passed = ap (λ o. first (numberTests (length src) (tileIn b) (imageIn b) o [])) (says .0) ∙ s .pre .1 .1 .0 in
+    let answer = d .load .ensures ∙ (λ i. askedCall bank map src (t .tile-in .ensures i) (m .image-in .ensures i) asked (s .args .last)) in
+    let loaded = loaded-is bank map src (tileIn b) (imageIn b) asked (s .args .last) (s .pre .0 .0) (s .pre .0 .1) passed (s .pre .1 .1 .1)
+    _ _ _ _ _ _ answer in
     rw (says .1) at loaded
 
 pub carry-out-spec : {M : Type 1} → statement M

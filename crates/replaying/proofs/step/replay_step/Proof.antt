@@ -2,9 +2,10 @@
 use mathlib.Core.Path.{_≡_, sym, _∙_}
 use mathlib.Core.List.{[], _∷_}
 use Rattle.rules.specs.Refusal.{first}
-use Rattle.rules.specs.Replay.{tileIn, imageIn, sizeIn, outsideIn, beyond, recordTests, outcome}
-use Rattle.rules.proofs.Refused.{refused-is}
-use Rattle.rules.proofs.ReplayTests.{whole, key-passes, load-passes, key-done, load-done, shorter-source}
+use Rattle.rules.specs.Replay.{tileIn, imageIn, sizeIn, outsideIn, beyond, recordTests, tested, stepTests, outcome}
+use Rattle.rules.proofs.Refused.{refused-or-is}
+use Rattle.rules.proofs.ReplayTests.{step-passed, number-left, whole, key-passes, load-passes, key-done, load-done}
+use Rattle.rules.proofs.ReplayTests.{shorter-source}
 use borrow.Author.Needs.{needs}
 use Rattle.replaying.proofs.step.replay_step.Statement.{statement}
 use Rattle.replaying.proofs.step.replay_step.Tie as tie
@@ -13,15 +14,18 @@ abbrev start : tie.Else1 → tie.Start
 start e = e .before .before .before .before .before .before
 
 -- no test of the record failed
-accepted : (e : tie.Else1) → let a = start e .args in first (recordTests (a .end) (a .bytes .now)) ≡ 0
-accepted e = sym (e .before .record-refusal .ensures) ∙ e .if1 .left
+passed : (e : tie.Else1) → let a = start e .args in first (stepTests (a .end) (a .bytes .now) (a .last)) ≡ 0
+passed e = sym (e .before .step-refusal .ensures) ∙ e .if1 .left
 
-record-refusal-requires : tie.Need-record-refusal-requires
-record-refusal-requires c κs = search needs
+accepted : (e : tie.Else1) → let a = start e .args in first (recordTests (a .end) (a .bytes .now)) ≡ 0
+accepted e = let a = start e .args in step-passed (a .end) (a .bytes .now) (a .last) (passed e) .0
+
+step-refusal-requires : tie.Need-step-refusal-requires
+step-refusal-requires c κs = search needs
 
 returns : tie.Need-returns
-unfolding outcome
-returns c = refused-is _ _ _ _ _ (c .before .record-refusal .ensures) (c .if1 .taken)
+unfolding outcome tested
+returns c = refused-or-is _ _ _ _ _ _ (c .before .step-refusal .ensures) (c .if1 .taken)
 
 asks-key-requires : tie.Need-asks-key-requires
 asks-key-requires c κs = search needs
@@ -46,7 +50,7 @@ returns-2 c =
     let t = c .before .before in
     let k = t .before in
     let a = start (k .before) .args in
-    key-done (a .end) (a .bytes .now) (accepted (k .before)) (a .src .now) (a .bank .now) (a .written .now) _
+    key-done (a .end) (a .bytes .now) (a .src .now) (a .bank .now) (a .written .now) (a .last) (passed (k .before)) _
     (sym (k .asks-key .ensures) ∙ t .if2 .taken) (c .kept-count .ensures)
 
 carry-out-requires : tie.Need-carry-out-requires
@@ -56,11 +60,15 @@ carry-out-requires c κs =
     let s = start (k .before) in
     let a = s .args in
     let b = a .bytes .now in
-    let passed = load-passes (a .end) b (accepted (k .before)) (sym (k .asks-key .ensures) ∙ e .if2 .left) in (
+    let load = sym (k .asks-key .ensures) ∙ e .if2 .left in
+    let numbers = load-passes (a .end) b (accepted (k .before)) load in (
       s .pre .0,
       (
         whole (a .end) b (accepted (k .before)),
-        shorter-source (sizeIn b) _ (tileIn b) (imageIn b) (outsideIn b) (beyond (a .end) b ∷ []) (s .pre .1) passed,
+        (
+          shorter-source (sizeIn b) _ (tileIn b) (imageIn b) (outsideIn b) (beyond (a .end) b ∷ []) (s .pre .1) numbers,
+          number-left (a .end) b (a .last) load (passed (k .before)),
+        ),
       ),
     )
 
@@ -77,14 +85,16 @@ returns-3 c =
     let k = e .before in
     let a = start (k .before) .args in
     let done = d .carry-out .ensures in
-    load-done (a .end) (a .bytes .now) (accepted (k .before)) (a .src .now) (a .bank .now) (a .written .now) _ _ _
-    (sym (k .asks-key .ensures) ∙ e .if2 .left) (done .0) (done .1 .bank-is) (done .1 .map-is)
+    let answer = done .0 in
+    rw (answer .0, answer .1 .1)
+    (load-done (a .end) (a .bytes .now) (a .src .now) (a .bank .now) (a .written .now) (a .last) (passed (k .before)) _ _ _
+    (sym (k .asks-key .ensures) ∙ e .if2 .left) (answer .1 .0) (done .1 .bank-is) (done .1 .map-is))
 
 pub replay-step-spec : {M : Type 1} → statement M
 replay-step-spec =
     tie.close
     (tie.spec
-    record-refusal-requires
+    step-refusal-requires
     returns
     asks-key-requires
     kept-count-requires

@@ -3,7 +3,7 @@ use mathlib.Core.Bool.{true}
 use Prim.Native.Nat.{_-_}
 use native.Mathlib.Omega.{arith}
 use lib.ListN.{length}
-use Rattle.tmem.specs.Part.{placeOf, bytesIn}
+use Rattle.tmem.specs.Part.{memory, placeOf, bytesIn}
 use Rattle.tmem.proofs.Carry.{Turn, begin, next, finish}
 use Rattle.tmem.proofs.PastEnd.{entry-tally}
 use Rattle.tmem.proofs.EightBytes.{entry-taken}
@@ -12,11 +12,11 @@ use Rattle.tmem.proofs.entries.write_tlut_entry.Statement.{statement}
 use Rattle.tmem.proofs.entries.write_tlut_entry.Tie as tie
 
 abbrev Inv-loop : tie.InvT-loop
-Inv-loop bank₀ written₀ src at source word k₀ bank written k =
-    Turn 4 (entryTurn (at .0)) (bytesIn (word .bytes)) bank₀ written₀ k bank written
+Inv-loop bank₀ written₀ src at source number word k₀ bank written k =
+    Turn 4 (entryTurn (at .0)) (bytesIn (word .bytes)) number (memory bank₀ written₀) k (memory bank written)
 
 abbrev μ-loop : tie.MeasureT-loop
-μ-loop bank₀ written₀ src at source word k₀ bank written k = 4 - k
+μ-loop bank₀ written₀ src at source number word k₀ bank written k = 4 - k
 
 source-word-requires : tie.Need-source-word-requires Inv-loop μ-loop
 source-word-requires c κs = omega arith

@@ -2,7 +2,7 @@
 use Prim.Native.Nat.{_-_, _*_, _≤_}
 use native.Mathlib.Omega.{arith}
 use Rattle.rules.specs.Load.{entryStores, entryRow}
-use Rattle.tmem.specs.Part.{loadOf}
+use Rattle.tmem.specs.Part.{loadOf, memory}
 use Rattle.tmem.proofs.Carry.{Counting, begin-count, next-count, finish-count, count-within}
 use Rattle.tmem.proofs.Indices.{product-within}
 use Rattle.tmem.proofs.Rows.{entry-length, entry-at}
@@ -10,11 +10,11 @@ use Rattle.tmem.proofs.entries.write_tlut_row.Statement.{statement}
 use Rattle.tmem.proofs.entries.write_tlut_row.Tie as tie
 
 abbrev Inv-loop : tie.InvT-loop
-Inv-loop bank₀ written₀ src tile count stride row tally₀ i₀ bank written tally i =
-    Counting count (entryStores (loadOf tile) stride row) src bank₀ written₀ i bank written tally
+Inv-loop bank₀ written₀ src tile count stride row number tally₀ i₀ bank written tally i =
+    Counting count (entryStores (loadOf tile) stride row) src number (memory bank₀ written₀) i (memory bank written) tally
 
 abbrev μ-loop : tie.MeasureT-loop
-μ-loop bank₀ written₀ src tile count stride row tally₀ i₀ bank written tally i = count - i
+μ-loop bank₀ written₀ src tile count stride row number tally₀ i₀ bank written tally i = count - i
 
 source-within : (c : tie.In-loop Inv-loop μ-loop)
     → let a = c .before .before .before .before .before .before .args in a .row * a .stride ≤ 1023 * 65535

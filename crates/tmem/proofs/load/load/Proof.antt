@@ -1,12 +1,13 @@
 -- `tmem::load::load` refuses, or carries out what is asked. Assumes nothing.
 use mathlib.Core.Path.{_≡_, sym, _∙_}
+use native.Mathlib.Omega.{arith}
 use borrow.Author.Needs.{needs}
 use Rattle.rules.specs.Refusal.{first}
 use Rattle.rules.specs.Calls.{loadTests}
-use Rattle.rules.proofs.Refused.{refused-is}
+use Rattle.rules.proofs.Refused.{refused-or-is}
 use Rattle.rdp.specs.View.{tileOf}
 use Rattle.tmem.specs.Asked.{askedOutside}
-use Rattle.tmem.proofs.Within.{within, loaded-done}
+use Rattle.tmem.proofs.Within.{Within, within, loaded-done}
 use Rattle.tmem.proofs.load.load.Statement.{statement}
 use Rattle.tmem.proofs.load.load.Tie as tie
 
@@ -20,21 +21,33 @@ same-length-2 : tie.Need-same-length-2
 same-length-2 c = search needs
 
 returns : tie.Need-returns
-returns c = refused-is _ _ _ _ _ (c .before .load-refusal .ensures) (c .if1 .taken)
+returns c = refused-or-is _ _ _ _ _ _ (c .before .load-refusal .ensures) (c .if1 .taken)
 
 -- no test failed
 passes : (c : tie.Else1) → let a = c .before .before .before .before .before .before .before .args in
-    first (loadTests (a .bank .now) (a .written .now) (a .src .now) (tileOf (a .tile)) (a .image-siz) (askedOutside (a .asked))) ≡ 0
+    first (loadTests (a .bank .now) (a .written .now) (a .src .now) (tileOf (a .tile)) (a .image-siz) (askedOutside (a .asked)) (a .last))
+    ≡ 0
 passes c = sym (c .before .load-refusal .ensures) ∙ c .if1 .left
+
+-- so the load is inside its ranges
+inside : (c : tie.Else1) → let a = c .before .before .before .before .before .before .before .args in
+    Within (a .bank .now) (a .written .now) (a .image-siz) (askedOutside (a .asked)) (a .last)
+inside c =
+    let a = c .before .before .before .before .before .before .before .args in
+    within (a .bank .now) (a .written .now) (a .src .now) (tileOf (a .tile)) (a .image-siz) (askedOutside (a .asked)) (a .last) (passes c)
+
+add-number : tie.Need-add-number
+add-number c = omega (arith, inside c .lent .number-in)
 
 load-fields-requires : tie.Need-load-fields-requires
 load-fields-requires c κs = search needs
 
+cast-write : tie.Need-cast-write
+cast-write c = search needs
+
 write-requires : tie.Need-write-requires
 write-requires c κs =
-    let e = c .before .before .before in
-    let a = e .before .before .before .before .before .before .before .args in
-    let w = within (a .bank .now) (a .written .now) (a .src .now) (tileOf (a .tile)) (a .image-siz) (askedOutside (a .asked)) (passes e) in
+    let w = inside (c .before .before .before) in
     (w .lent, (w .image-in, w .inside))
 
 same-length-3 : tie.Need-same-length-3
@@ -46,7 +59,7 @@ same-length-4 c = search needs
 returns-2 : tie.Need-returns-2
 returns-2 c =
     let d = c .before .before .before .before in
-    loaded-done _ _ _ _ _ _ _ _ (passes (d .before .before .before .before)) (rw (d .before .load-fields .ensures) at (d .write .ensures))
+    loaded-done _ _ _ _ _ _ _ _ _ (passes (d .before .before .before .before)) (rw (d .before .load-fields .ensures) at (d .write .ensures))
 
 pub load-spec : {M : Type 1} → statement M
 load-spec =
@@ -56,7 +69,9 @@ load-spec =
     same-length
     same-length-2
     returns
+    add-number
     load-fields-requires
+    cast-write
     write-requires
     same-length-3
     same-length-4

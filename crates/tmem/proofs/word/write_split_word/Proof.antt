@@ -4,18 +4,19 @@ use Prim.Native.Nat.{_+_, _-_}
 use native.Mathlib.Omega.{arith}
 use lib.ListN.{getD}
 use Rattle.rules.specs.Load.{list4}
-use Rattle.tmem.specs.Part.{loadOf, splitStep, bytesIn}
+use Rattle.tmem.specs.Part.{loadOf, memory, splitStep, bytesIn}
 use Rattle.tmem.proofs.Carry.{Turn, begin, next, finish}
 use Rattle.tmem.proofs.Places.{splitTurn, split-turn, split-is}
 use Rattle.tmem.proofs.word.write_split_word.Statement.{statement}
 use Rattle.tmem.proofs.word.write_split_word.Tie as tie
 
 abbrev Inv-loop : tie.InvT-loop
-Inv-loop bank₀ written₀ word tile first odd start i₀ bank written i =
-    Turn 2 (splitTurn (splitStep (loadOf tile)) (list4 (first .0) odd) start) (bytesIn word) bank₀ written₀ i bank written
+Inv-loop bank₀ written₀ word tile first odd start number i₀ bank written i =
+    Turn 2 (splitTurn (splitStep (loadOf tile)) (list4 (first .0) odd) start) (bytesIn word) number (memory bank₀ written₀) i
+    (memory bank written)
 
 abbrev μ-loop : tie.MeasureT-loop
-μ-loop bank₀ written₀ word tile first odd start i₀ bank written i = 2 - i
+μ-loop bank₀ written₀ word tile first odd start number i₀ bank written i = 2 - i
 
 loop-holds : tie.Need-loop-holds Inv-loop μ-loop
 loop-holds c = begin (c .before .before .pre .0)

@@ -2,18 +2,18 @@
 use Prim.Native.Nat.{_-_}
 use native.Mathlib.Omega.{arith}
 use Rattle.rules.specs.Load.{list4, upper, wholeStores}
-use Rattle.tmem.specs.Part.{bytesIn}
+use Rattle.tmem.specs.Part.{memory, bytesIn}
 use Rattle.tmem.proofs.Carry.{Turn, begin, next, finish}
 use Rattle.tmem.proofs.Places.{wholeTurn}
 use Rattle.tmem.proofs.word.write_whole_word.Statement.{statement}
 use Rattle.tmem.proofs.word.write_whole_word.Tie as tie
 
 abbrev Inv-loop : tie.InvT-loop
-Inv-loop bank₀ written₀ word first odd k₀ bank written k =
-    Turn 4 (wholeTurn (list4 (first .0) odd) (upper (first .0)) odd) (bytesIn word) bank₀ written₀ k bank written
+Inv-loop bank₀ written₀ word first odd number k₀ bank written k =
+    Turn 4 (wholeTurn (list4 (first .0) odd) (upper (first .0)) odd) (bytesIn word) number (memory bank₀ written₀) k (memory bank written)
 
 abbrev μ-loop : tie.MeasureT-loop
-μ-loop bank₀ written₀ word first odd k₀ bank written k = 4 - k
+μ-loop bank₀ written₀ word first odd number k₀ bank written k = 4 - k
 
 loop-holds : tie.Need-loop-holds Inv-loop μ-loop
 loop-holds c = begin (c .before .before .pre .0)
@@ -27,8 +27,8 @@ lower-byte-requires c κs = c .place-halfword .ensures .1
 half-start-requires : tie.Need-half-start-requires Inv-loop μ-loop
 half-start-requires c κs = tt
 
-add-t12 : tie.Need-add-t12 Inv-loop μ-loop
-add-t12 c = omega arith
+add-t13 : tie.Need-add-t13 Inv-loop μ-loop
+add-t13 c = omega arith
 
 write-whole-place-requires : tie.Need-write-whole-place-requires Inv-loop μ-loop
 write-whole-place-requires c κs =
@@ -76,7 +76,7 @@ write-whole-word-spec =
     place-halfword-requires
     lower-byte-requires
     half-start-requires
-    add-t12
+    add-t13
     write-whole-place-requires
     add-k
     loop-less

@@ -1,7 +1,7 @@
 -- `tmem::words::write_words` carries out the words of a run, one after the other. Assumes nothing.
 use Prim.Native.Nat.{_-_, _<_}
 use native.Mathlib.Omega.{arith}
-use Rattle.tmem.specs.Part.{loadOf}
+use Rattle.tmem.specs.Part.{loadOf, memory}
 use Rattle.tmem.specs.Run.{runWord, runStores}
 use Rattle.tmem.proofs.Carry.{Counting, begin-count, next-count, finish-count, count-within}
 use Rattle.tmem.proofs.Places.{word-length}
@@ -9,11 +9,11 @@ use Rattle.tmem.proofs.words.write_words.Statement.{statement}
 use Rattle.tmem.proofs.words.write_words.Tie as tie
 
 abbrev Inv-loop : tie.InvT-loop
-Inv-loop bank₀ written₀ src tile run words tally₀ word₀ bank written tally word =
-    Counting words (runWord (loadOf tile) run) src bank₀ written₀ word bank written tally
+Inv-loop bank₀ written₀ src tile run words number tally₀ word₀ bank written tally word =
+    Counting words (runWord (loadOf tile) run) src number (memory bank₀ written₀) word (memory bank written) tally
 
 abbrev μ-loop : tie.MeasureT-loop
-μ-loop bank₀ written₀ src tile run words tally₀ word₀ bank written tally word = words - word
+μ-loop bank₀ written₀ src tile run words number tally₀ word₀ bank written tally word = words - word
 
 word-below : (c : tie.In-loop Inv-loop μ-loop) → c .before .loop .word < 2048
 word-below c = omega (arith, c .before .before .before .before .before .before)

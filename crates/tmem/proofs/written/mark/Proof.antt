@@ -4,7 +4,7 @@
 -- All that the proof knows of `mark_halfword` is that it meets its contract.
 -- Assumes nothing.
 use mathlib.Core.Path.{_≡_, refl, sym, ap, subst}
-use Prim.Native.Nat.{ℕ, _/_, _%_, _<_, _^_}
+use Prim.Native.Nat.{ℕ, _<_, _≤_, _^_}
 use mathlib.Core.List.{[], _∷_, List}
 use lib.Dec.{T as Holds}
 use lib.ListN.{length}
@@ -50,7 +50,7 @@ use denote.Triple.Walked.{says, needs, Stays, stay-ref, stay-none, walkOf, goes-
 use denote.Exit.{yes}
 use denote.Signature.{Slot, plain, namedLft}
 use denote.Signature.Struct.{makes}
-use Rattle.tmem.specs.Marks.{bothMarked}
+use Rattle.tmem.specs.Marks.{bothStamped}
 use Rattle.tmem.specs.declared.written.Written.{Written}
 use Rattle.tmem.proofs.written.Written as T
 use Rattle.tmem.proofs.written.Written.Laws as T′
@@ -114,7 +114,7 @@ module _ {M : Type 1} (𝓤 : URA M) (H : Heap 𝓤) (A : Atoms 𝓤) (W : Given
   abbrev to-mark-halfword : ℕ → GName → MarkHalfword 𝓤 H A at-mem run .Ghost
   to-mark-halfword ν δ = (((ν ∷ [], tt), (fullShare, tt), tt, (x δ ys, (n, tt)), (s ∷ [], (vint w64 n ∷ [], tt))), tt)
 
-  goes : (n / 8 < length ys) × (n % 2 ≡ 0) → (ν : ℕ) (δ : GName)
+  goes : (4 ≤ length ys) × (n < 65536) → (ν : ℕ) (δ : GName)
       → ent 𝓤 (sep 𝓤 (A .lft (ν ∷ []) fullShare) (sem 𝓤 H A (MutSlice (named 0) (ν ∷ []) u8 .own (x δ ys) (s ∷ []))))
       (MarkHalfword 𝓤 H A at-mem run .pre (to-mark-halfword ν δ))
   goes within ν δ =
@@ -122,7 +122,7 @@ module _ {M : Type 1} (𝓤 : URA M) (H : Heap 𝓤) (A : Atoms 𝓤) (W : Given
       move ! (1 ∷ 0 ∷ []) $ join ! $ frame ! $
       nothing ! $ owned ! usize (Is usize) (uint-makes 𝓤 H A W w64) n _ (refl, fits) $ fjoin ! $ move ! (1 ∷ 0 ∷ []) $ fjoin ! $ done !
 
-  exits : (zs : List ℕ) → zs ≡ bothMarked ys n
+  exits : (zs : List ℕ) → zs ≡ bothStamped n ys 0
       → ent 𝓤 (⋆ 𝓤 H A (‵ (fobs γ (R .coded .code (h zs))) ∷ ‵ (fbor κ (Body (mem R) b o γ)) ∷ ‵ (flft κ q) ∷ ‵ (flft κ′ q′) ∷ []))
       (Post vunit)
   exits zs e =
@@ -144,7 +144,7 @@ module _ {M : Type 1} (𝓤 : URA M) (H : Heap 𝓤) (A : Atoms 𝓤) (W : Given
 
   module _ (C : Calls 𝓤 H) (Λ : Loops 𝓤 H) (fm : FmC 𝓤 H (W .laws) C)
       (known : Triple 𝓤 (C #tmem·written·mark-halfword) (MarkHalfword 𝓤 H A at-mem run)) where
-    walk : (n / 8 < length ys) × (n % 2 ≡ 0) → ent 𝓤 (onEntry 𝓤 H A mark.signature (κ, (κ′, tt)) (q, (q′, tt)) a vals)
+    walk : (4 ≤ length ys) × (n < 65536) → ent 𝓤 (onEntry 𝓤 H A mark.signature (κ, (κ′, tt)) (q, (q′, tt)) a vals)
         (WpFn 𝓤 H C Λ code.function (vptr b o ∷ vint w64 n ∷ []) Post)
     walk within =
         qed W ((‵ (flft κ q) ⊛ ‵ (flft κ′ q′) ⊛ ‵ ftrue) ∷ ‵ (owns (MutRef (named 0) κ R ∷ usize ∷ []) a vals) ∷ []) ∵
@@ -183,8 +183,8 @@ module _ {M : Type 1} (𝓤 : URA M) (H : Heap 𝓤) (A : Atoms 𝓤) (W : Given
         -- what `mark_halfword` ensures, at some last list
         split ! $ move ! (1 ∷ []) $
         use1 W (some (λ (zs : List ℕ × (Unit {0} × Unit {0})). ‵ (lasts mark-halfword.ended (ν ∷ [], tt) (x δ ys, (n, tt)) zs)
-        ⊛ raw (fact 𝓤 (zs .0 ≡ bothMarked ys n)))) (id⊢ 𝓤 _) $ pick ! (λ zs.
-        split ! $ move ! (1 ∷ []) $ heard ! (zs .0 ≡ bothMarked ys n) (λ e. fsplit ! $ fsplit ! $ move ! (1 ∷ []) $ feqL ! (λ l.
+        ⊛ raw (fact 𝓤 (zs .0 ≡ bothStamped n ys 0)))) (id⊢ 𝓤 _) $ pick ! (λ zs.
+        split ! $ move ! (1 ∷ []) $ heard ! (zs .0 ≡ bothStamped n ys 0) (λ e. fsplit ! $ fsplit ! $ move ! (1 ∷ []) $ feqL ! (λ l.
         move ! (2 ∷ []) $ split ! $ move ! (1 ∷ []) $
         feqL ! (λ is. land ! (from ! (stop !))
         (init ! 17 refl (subst (λ (y : Val). Holds (hasTy tyUnit y) × WT y) (sym (ap only is)) (tt, tt))) $
@@ -213,7 +213,7 @@ module _ {M : Type 1} (𝓤 : URA M) (H : Heap 𝓤) (A : Atoms 𝓤) (W : Given
   mark-walks C Λ fm known =
       walked 𝓤 H A mark.ended stayed (mark.clauses 𝓤 H A mem run) (WpFn 𝓤 H C Λ code.function) (λ κs. (ptr-vals, (uint-vals w64, tt)))
       (λ κs. (mut-tells (named 0) (κs .0) (T.the-row (namedLft 2 1 tt κs)), (uint-tells w64, tt)))
-      (λ κs qs bounds a g are. needs 𝓤 ((a .1 .0 / 8 < length (a .0 .now .map .now)) × (a .1 .0 % 2 ≡ 0)) _ (λ within.
+      (λ κs qs bounds a g are. needs 𝓤 ((4 ≤ length (a .0 .now .map .now)) × (a .1 .0 < 65536)) _ (λ within.
       walk 𝓤 H A W mem run (κs .0) (κs .1 .0) bounds (qs .0) (qs .1 .0) (a .0 .ptr .0) (a .0 .ptr .1) (a .0 .name)
       (a .0 .now .map .ptr .0) (a .0 .now .map .ptr .1) (a .0 .now .map .name) (a .0 .now .map .now) (a .1 .0)
       (are .1 .0 .1) C Λ fm known within))

@@ -1,26 +1,45 @@
--- `tmem::written::mark_halfword` stores the byte with both bits set. Assumes nothing.
+-- `tmem::written::mark_halfword` stores the four bytes. Assumes nothing.
+use native.Mathlib.Omega.{arith}
+use lib.ListN.{length-set}
 use borrow.Author.Needs.{needs}
-use Rattle.tmem.proofs.Halfwords.{halfword-marked}
+use Rattle.rules.specs.Base.{stamped}
 use Rattle.tmem.proofs.written.mark_halfword.Statement.{statement}
 use Rattle.tmem.proofs.written.mark_halfword.Tie as tie
 
-slice-read-map : tie.Need-slice-read-map
-slice-read-map c = search needs
+cast-high : tie.Need-cast-high
+cast-high c = search needs
 
-cast-map : tie.Need-cast-map
-cast-map c = search needs
+cast-low : tie.Need-cast-low
+cast-low c = search needs
 
-shl-map : tie.Need-shl-map
-shl-map c = search needs
+slice-write-part : tie.Need-slice-write-part
+slice-write-part c = search needs
 
-slice-write-map : tie.Need-slice-write-map
-slice-write-map c = search needs
+slice-write-part-2 : tie.Need-slice-write-part-2
+slice-write-part-2 c = simp length-set (omega arith)
+
+slice-write-part-3 : tie.Need-slice-write-part-3
+slice-write-part-3 c = simp length-set (omega arith)
+
+slice-write-part-4 : tie.Need-slice-write-part-4
+slice-write-part-4 c = simp length-set (omega arith)
 
 same-length : tie.Need-same-length
 same-length c = search needs
 
 returns : tie.Need-returns
-returns c = halfword-marked (c .before .args .map .now) (c .before .args .at) (c .before .pre .1)
+unfolding stamped
+returns c = search needs
 
 pub mark-halfword-spec : {M : Type 1} → statement M
-mark-halfword-spec = tie.close (tie.spec slice-read-map cast-map shl-map slice-write-map same-length returns)
+mark-halfword-spec =
+    tie.close
+    (tie.spec
+    cast-high
+    cast-low
+    slice-write-part
+    slice-write-part-2
+    slice-write-part-3
+    slice-write-part-4
+    same-length
+    returns)

@@ -3,8 +3,8 @@
 -- After the call the lifetime is ended, the local comes back at the record that `mark` ensures, and what its borrow says last is the
 -- parameter's last list. All that the proof knows of `mark` is that it meets its contract.
 -- Assumes nothing.
-use mathlib.Core.Path.{_≡_, refl, sym, ap, subst, _∙_}
-use Prim.Native.Nat.{ℕ, _+_, _/_, _%_, _<_, _^_}
+use mathlib.Core.Path.{_≡_, refl, sym, ap, subst}
+use Prim.Native.Nat.{ℕ, _<_, _≤_, _^_}
 use mathlib.Core.List.{[], _∷_, List}
 use lib.Dec.{T as Holds}
 use lib.ListN.{length}
@@ -52,10 +52,9 @@ use denote.Triple.Walked.{says, needs, Stays, gave-slice, stay-none, walkOf, goe
 use denote.Exit.{yes}
 use denote.Signature.{plain}
 use denote.Signature.Struct.{makes}
-use Rattle.rules.specs.Base.{marked}
-use Rattle.rules.proofs.Maps.{length-marked}
-use Rattle.tmem.specs.Marks.{bothMarked, markedIn}
+use Rattle.tmem.specs.Marks.{bothStamped, stampedIn}
 use Rattle.tmem.specs.declared.written.Written.{Written}
+use Rattle.tmem.proofs.Halfwords.{length-both}
 use Rattle.tmem.proofs.written.Written as T
 use Rattle.tmem.proofs.written.Written.Laws as T′
 use Rattle.tmem.proofs.written.mark as mark
@@ -97,7 +96,7 @@ module _ {M : Type 1} (𝓤 : URA M) (H : Heap 𝓤) (A : Atoms 𝓤) (W : Given
   mach l = vstruct (vcons (s l) vnil)
 
   abbrev zs : List ℕ
-  zs = bothMarked ys n
+  zs = bothStamped n ys 0
 
   abbrev Arg : Type 0
   Arg = RefT (List ℕ) × (ℕ × Unit {0})
@@ -130,7 +129,7 @@ module _ {M : Type 1} (𝓤 : URA M) (H : Heap 𝓤) (A : Atoms 𝓤) (W : Given
   to-mark ν l δ =
       (((ν ∷ κ, (κ, tt)), (q₁, (q₂, tt)), (meet-⊑-right (ν ∷ []) κ, tt), (lent l δ, (n, tt)), (vptr l 0 ∷ [], (vint w64 n ∷ [], tt))), tt)
 
-  goes : (n / 8 < length ys) × (n % 2 ≡ 0) → (ν l : ℕ) (δ : GName)
+  goes : (4 ≤ length ys) × (n < 65536) → (ν l : ℕ) (δ : GName)
       → ent 𝓤 (sep 𝓤 (A .lft (ν ∷ κ) q₁) (sep 𝓤 (A .lft κ q₂) (sem 𝓤 H A (Lent ν l δ)))) (Mark 𝓤 H A at-mem run .pre (to-mark ν l δ))
   goes within ν l δ =
       qed W (‵ (flft (ν ∷ κ) q₁) ∷ ‵ (flft κ q₂) ∷ ‵ (Lent ν l δ) ∷ []) ∵ says ! within $ nothing ! $ move ! (2 ∷ 0 ∷ []) $ join ! $
@@ -141,7 +140,7 @@ module _ {M : Type 1} (𝓤 : URA M) (H : Heap 𝓤) (A : Atoms 𝓤) (W : Given
   exits =
       qed W (‵ (flft κ q) ∷ ‵ (finally u8 γ zs) ∷ []) ∵
       suffices ! _ (ends-at 𝓤 H A mark-in.ended stayed (mark-in.clauses 𝓤 H A at-mem run) W (((κ, tt), (q, tt), tt, a, vals), tt) vunit tt
-      (zs, (tt, tt)) (length-marked (marked ys n) (n + 1) ∙ length-marked ys n, (tt, tt))) $ says ! refl $
+      (zs, (tt, tt)) (length-both n ys 0, (tt, tt))) $ says ! refl $
       nothing ! $ move ! (1 ∷ 0 ∷ []) $ join ! $ frame ! $ nothing ! $
       owned ! usize (Is usize) (uint-makes 𝓤 H A W w64) n _ (refl, fits) $ fjoin ! $ move ! (1 ∷ 0 ∷ []) $ fjoin ! $
       feqI ! (List Val) (vunit ∷ []) (vunit ∷ []) refl $ move ! (1 ∷ 0 ∷ []) $ done !
@@ -162,7 +161,7 @@ module _ {M : Type 1} (𝓤 : URA M) (H : Heap 𝓤) (A : Atoms 𝓤) (W : Given
 
   module _ (C : Calls 𝓤 H) (Λ : Loops 𝓤 H) (fm : FmC 𝓤 H (W .laws) C)
       (known : Triple 𝓤 (C #tmem·written·mark) (Mark 𝓤 H A at-mem run)) where
-    walk : Room u8 (length ys) → (n / 8 < length ys) × (n % 2 ≡ 0)
+    walk : Room u8 (length ys) → (4 ≤ length ys) × (n < 65536)
         → ent 𝓤 (onEntry 𝓤 H A mark-in.signature (κ, tt) (q, tt) a vals) (WpFn 𝓤 H C Λ code.function (s ys ∷ vint w64 n ∷ []) Post)
     unfolding partOf
     walk room within =
@@ -202,8 +201,8 @@ module _ {M : Type 1} (𝓤 : URA M) (H : Heap 𝓤) (A : Atoms 𝓤) (W : Given
         -- what `mark` ensures, at some last record
         split ! $ move ! (1 ∷ []) $
         use1 W (some (λ (g : Written × (Unit {0} × Unit {0})). ‵ (lasts mark.ended (ν ∷ κ, (κ, tt)) (lent l₃ δ, (n, tt)) g)
-        ⊛ raw (fact 𝓤 (g .0 ≡ markedIn (h ys) n)))) (id⊢ 𝓤 _) $ pick ! (λ g.
-        split ! $ move ! (1 ∷ []) $ heard ! (g .0 ≡ markedIn (h ys) n) (λ e. fsplit ! $
+        ⊛ raw (fact 𝓤 (g .0 ≡ stampedIn (h ys) n)))) (id⊢ 𝓤 _) $ pick ! (λ g.
+        split ! $ move ! (1 ∷ []) $ heard ! (g .0 ≡ stampedIn (h ys) n) (λ e. fsplit ! $
         rewrite ! 0 (λ (r : Written). ‵ (fres δ (R .coded .code r))) e refl $
         move ! (2 ∷ []) $ split ! $ move ! (1 ∷ []) $
         feqL ! (λ is. land ! (from ! (stop !))
@@ -233,7 +232,7 @@ module _ {M : Type 1} (𝓤 : URA M) (H : Heap 𝓤) (A : Atoms 𝓤) (W : Given
   mark-in-walks C Λ fm known =
       walked 𝓤 H A mark-in.ended stayed (mark-in.clauses 𝓤 H A mem run) (WpFn 𝓤 H C Λ code.function)
       (λ κs. (slice-vals, (uint-vals w64, tt))) (λ κs. (mut-slice-tells (named 0) (κs .0) u8, (uint-tells w64, tt)))
-      (λ κs qs bounds a g are. needs 𝓤 ((a .1 .0 / 8 < length (a .0 .now)) × (a .1 .0 % 2 ≡ 0)) _
+      (λ κs qs bounds a g are. needs 𝓤 ((4 ≤ length (a .0 .now)) × (a .1 .0 < 65536)) _
       (λ within. walk 𝓤 H A W mem run (κs .0) (qs .0) (a .0 .ptr .0) (a .0 .ptr .1) (a .0 .name) (a .0 .now) (a .1 .0)
       (are .1 .0 .1) C Λ fm known (are .0 .0 .1) within))
 
