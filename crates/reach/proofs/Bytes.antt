@@ -1,6 +1,6 @@
 -- Laws of one byte of a map: what several bits do at once, or where one of them is.
 use mathlib.Core.Path.{_≡_, refl, ap, sym, _∙_}
-use mathlib.Core.Bool.{Bool, true, false, cond, _&&_, _||_, or-false}
+use mathlib.Core.Bool.{Bool, true, false, cond, not, _&&_, _||_, or-false}
 use mathlib.Core.List.{List, [], _∷_}
 use Prim.Native.Nat.{ℕ, zero, suc, _+_, _-_, _*_, _/_, _%_, _^_, _<_, _≤_}
 use native.Mathlib.Omega.{arith}
@@ -14,7 +14,7 @@ use borrow.Author.Tests.{eq-eqb, ne-eqb, lt-ltb, le-ltb}
 use Rattle.rules.specs.Base.{one, marked, numberAt, isWritten}
 use Rattle.rules.proofs.Bits.{more-bits, ones}
 use Rattle.rules.proofs.Computed.{agree-below}
-use Rattle.reach.specs.Words.{ors, joined, markBit, wordMarks, wordBytes, meets}
+use Rattle.reach.specs.Words.{ors, joined, markBit, wordMarks, wordBytes, meets, lowWords, wordMeets}
 use Rattle.reach.proofs.Differ.{differ, are-apart}
 
 -- one bit, shifted inside a width, is a power of two
@@ -178,3 +178,15 @@ module _ (m : List ℕ) (w s : ℕ) (h : s < 8) where
       (ap (λ n. differ n 0) (and-comm (ors 8 (markBit m w)) (2 ^ s))
       ∙ some-bit (λ k. isWritten m (8 * w + k)) s h 8 (omega arith)
       ∙ ap (λ b. b && isWritten m (8 * w + s)) (lt-ltb s 8 h))
+
+-- so none of its bits is set
+pub blank-meets : (m : List ℕ) (w bits : ℕ) → wordBytes m w ≡ 0 → meets m w bits ≡ false
+unfolding meets
+blank-meets m w bits e = ap (λ n. not (eqb (bitAnd n bits) 0)) (sym (blank-word m w e))
+
+-- nor one of the word that it stands for, where that one is blank, too
+pub blank-both : (m : List ℕ) (twice : Bool) (w bits : ℕ) → wordBytes m w ≡ 0 → (twice ≡ true → wordBytes m (w + lowWords) ≡ 0)
+    → wordMeets twice m w bits ≡ false
+unfolding wordMeets
+blank-both m true w bits e f = rw (blank-meets m w bits e, blank-meets m (w + lowWords) bits (f refl))
+blank-both m false w bits e f = blank-meets m w bits e

@@ -1,7 +1,7 @@
 // Several bits of one word at once: set in a map, or looked for in the written record.
-ghost use mathlib.Core.Bool.{true};
+ghost use mathlib.Core.Bool.{true, false};
 ghost use mathlib.Core.Path.{_≡_};
-ghost use Prim.Native.Nat.{_<_};
+ghost use Prim.Native.Nat.{ℕ, _<_};
 ghost use lib.ListN.{length};
 ghost use Rattle.rules.specs.Tile.{bankWords, mapSize, writtenSize};
 ghost use Rattle.reach.specs.Words.{joined, markBit, wordMarks, wordBytes, meets, lowWords, wordJoined, wordMeets};
@@ -67,30 +67,17 @@ fn each_mark(written: &[u8], at: usize) -> u8
     bits
 }
 
-// The marks of a word. Most words that are looked at have none, which one test of their bytes says.
-fn word_marks(written: &[u8], at: usize) -> u8
-    requires { ⌜ length (now written) ≡ writtenSize ⌝ }
-    requires { ⌜ at < bankWords ⌝ }
-    ensures { λ r. ⌜ r ≡ wordMarks (now (written .entry)) at ⌝ }
-{
-    if word_bytes(written, at) == 0 {
-        0
-    } else {
-        each_mark(written, at)
-    }
-}
-
 // One of the bits is set in the marks of word `at`.
 fn meets(written: &[u8], at: usize, bits: u8) -> bool
     requires { ⌜ length (now written) ≡ writtenSize ⌝ }
     requires { ⌜ at < bankWords ⌝ }
     ensures { λ r. ⌜ r ≡ meets (now (written .entry)) at bits ⌝ }
 {
-    word_marks(written, at) & bits != 0
+    each_mark(written, at) & bits != 0
 }
 
 // Or in those of the word that it stands for.
-pub(crate) fn word_meets(written: &[u8], twice: bool, at: usize, bits: u8) -> bool
+fn either_meets(written: &[u8], twice: bool, at: usize, bits: u8) -> bool
     requires { ⌜ length (now written) ≡ writtenSize ⌝ }
     requires { ⌜ (at < bankWords) × (twice ≡ true → at < lowWords) ⌝ }
     ensures { λ r. ⌜ r ≡ wordMeets twice (now (written .entry)) at bits ⌝ }
@@ -99,4 +86,30 @@ pub(crate) fn word_meets(written: &[u8], twice: bool, at: usize, bits: u8) -> bo
         return meets(written, at, bits) | meets(written, at + Bank::PALETTE_BASE / 8, bits);
     }
     meets(written, at, bits)
+}
+
+// No address of word `at` has a number, nor one of the word that it stands for.
+fn is_blank(written: &[u8], twice: bool, at: usize) -> bool
+    requires { ⌜ length (now written) ≡ writtenSize ⌝ }
+    requires { ⌜ (at < bankWords) × (twice ≡ true → at < lowWords) ⌝ }
+    ensures { λ r. ⌜ (r ≡ true → (bits : ℕ) → wordMeets twice (now (written .entry)) at bits ≡ false) ⌝ }
+{
+    if twice {
+        return (word_bytes(written, at) == 0)
+            & (word_bytes(written, at + Bank::PALETTE_BASE / 8) == 0);
+    }
+    word_bytes(written, at) == 0
+}
+
+// One of the bits is set in a word's marks. Most words that are looked at are blank, which their bytes say at once; the others are left to
+// a function of their own, so that this one is small enough to be compiled into the loop that calls it.
+pub(crate) fn word_meets(written: &[u8], twice: bool, at: usize, bits: u8) -> bool
+    requires { ⌜ length (now written) ≡ writtenSize ⌝ }
+    requires { ⌜ (at < bankWords) × (twice ≡ true → at < lowWords) ⌝ }
+    ensures { λ r. ⌜ r ≡ wordMeets twice (now (written .entry)) at bits ⌝ }
+{
+    if is_blank(written, twice, at) {
+        return false;
+    }
+    either_meets(written, twice, at, bits)
 }

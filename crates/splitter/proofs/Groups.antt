@@ -1,9 +1,9 @@
 -- Laws of what is known of the groups: entry i is of the group that its body was led to, where it has the body of that group's first
 -- entry, and else begins a new group.
-use mathlib.Core.Path.{_≡_, refl, ap, sym, subst, _∙_}
+use mathlib.Core.Path.{_≡_, ap, sym, subst, _∙_}
 use mathlib.Core.Bool.{cond}
 use mathlib.Core.List.{List}
-use Prim.Native.Nat.{ℕ, zero, suc, _+_, _*_, _<_}
+use Prim.Native.Nat.{ℕ, suc, _+_, _*_, _<_}
 use native.Mathlib.Omega.{arith}
 use native.Mathlib.Numerals.{add-one}
 use native.Mathlib.Decide.{decLt, ℕ-discrete}
@@ -11,6 +11,7 @@ use lib.Dec.{eqb}
 use lib.ListN.{getD, set, length-set, replicate, length-replicate}
 use lib.Seq.{getD-set-same, getD-set-other}
 use Rattle.rules.specs.Split.{entryLimit, firstOf, groupsBefore, groupOf}
+use Rattle.rules.proofs.Maps.{zeros-at}
 use Rattle.rules.proofs.Splits.{first-within, first-least, first-first, same-group, group-same}
 use Rattle.rules.proofs.Splits.{groups-more, groups-stay, groups-most, groups-order, groups-with, one-group, first-group}
 use Rattle.splitter.specs.Bodies.{bodySize}
@@ -123,12 +124,6 @@ module _ (f : ℕ → List ℕ) (i n : ℕ) (firsts : List ℕ) (q : Asked) (kn 
     new-known b now e a =
         let is : now ≡ q′ = a ∙ ap (λ m. more q n s x (getD m x 0)) e in
         subst (λ m. Known f (i + 1) (groupsBefore f (i + 1)) (set firsts n i) m) (sym is) with-question
-
--- in zeros there is nothing but zero
-zeros-at : (n s : ℕ) → _≡_ {A = ℕ} (getD (replicate n 0) s 0) 0
-zeros-at zero s = refl
-zeros-at (suc n) zero = refl
-zeros-at (suc n) (suc s) = zeros-at n s
 
 abbrev none : Asked
 none = asked (replicate (2 * entryLimit) 0) (replicate entryLimit 0) (replicate entryLimit 0)

@@ -6,16 +6,19 @@ ghost use lib.ListN.{length};
 ghost use Rattle.tmem.specs.Marks.{bothStamped, stampedIn};
 
 // Both addresses of a halfword get the number at once: two bytes each, big end first, at the front of the part that starts with them.
+// The four bytes are one number, its lowest first, so that they are compiled to one store.
 fn mark_halfword(part: &mut [u8], number: usize)
     requires { ⌜ (4 ≤ length (now part)) × (number < 65536) ⌝ }
     ensures { λ _. ⌜ now (part .exit) ≡ bothStamped number (now (part .entry)) 0 ⌝ }
 {
-    let high = (number / 256) as u8;
-    let low = (number % 256) as u8;
-    part[0] = high;
-    part[1] = low;
-    part[2] = high;
-    part[3] = low;
+    let high = number / 256;
+    let low = number % 256;
+    let both = high + 256 * low;
+    let all = both + 65536 * both;
+    part[0] = (all % 256) as u8;
+    part[1] = (all / 256 % 256) as u8;
+    part[2] = (all / 65536 % 256) as u8;
+    part[3] = (all / 16777216 % 256) as u8;
 }
 
 // What is written, by a part of a map of numbers that it borrows.

@@ -4,12 +4,12 @@ use Rattle.reach.specs.Words.{meets}
 use Rattle.reach.proofs.word.meets.Statement.{statement}
 use Rattle.reach.proofs.word.meets.Tie as tie
 
-word-marks-requires : tie.Need-word-marks-requires
-word-marks-requires c κs = search needs
+each-mark-requires : tie.Need-each-mark-requires
+each-mark-requires c κs = search needs
 
 returns : tie.Need-returns
 unfolding meets
-returns c = rw (c .word-marks .ensures)
+returns c = rw (c .each-mark .ensures)
 
 pub meets-spec : {M : Type 1} → statement M
-meets-spec = tie.close (tie.spec word-marks-requires returns)
+meets-spec = tie.close (tie.spec each-mark-requires returns)
