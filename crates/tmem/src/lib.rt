@@ -1,4 +1,4 @@
-// Texture memory, as tmem.rs has it: the bank, the written marks, a load's stores, and the loads.
+// Texture memory, as tmem.rs has it: the bank, the written record, a load's stores, and the loads.
 pub mod asked;
 pub mod bank;
 mod entries;
