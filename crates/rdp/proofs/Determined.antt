@@ -15,11 +15,12 @@ use Rattle.rdp.specs.declared.answer.ReplayAnswer.{ReplayAnswer}
 use Rattle.rdp.specs.declared.answer.SizeAnswer.{SizeAnswer}
 use Rattle.rdp.specs.declared.answer.SplitAnswer.{SplitAnswer}
 use Rattle.rdp.specs.declared.answer.YesAnswer.{YesAnswer}
+use Rattle.rdp.specs.declared.answer.ReasonAnswer.{ReasonAnswer}
 use Rattle.rdp.specs.declared.answer.SamplingAnswer.{SamplingAnswer}
 use Rattle.rdp.specs.declared.answer.TextAnswer.{TextAnswer}
 use Rattle.rdp.specs.declared.answer.RunAnswer.{RunAnswer}
 use Rattle.rdp.specs.View.{answered, loadAnswered, replayAnswered, sizeAnswered, splitAnswered, yesAnswered}
-use Rattle.rdp.specs.View.{samplingAnswered, textAnswered, runAnswered, refusalAnswered, tileOf}
+use Rattle.rdp.specs.View.{reasonAnswered, samplingAnswered, textAnswered, runAnswered, refusalAnswered, tileOf}
 
 -- number k of an outcome
 number : ℕ → Outcome → ℕ
@@ -67,6 +68,12 @@ unfolding number
 yes-determined o r s p q =
     let e : yesAnswered r ≡ yesAnswered s = determined p q in
     λ i. record { refusal = e i .refusal; yes = number 0 (e i) }
+
+pub reason-determined : (o : Outcome) (r s : ReasonAnswer) → reasonAnswered r ≡ o → reasonAnswered s ≡ o → r ≡ s
+unfolding number
+reason-determined o r s p q =
+    let e : reasonAnswered r ≡ reasonAnswered s = determined p q in
+    λ i. record { refusal = e i .refusal; reason = number 0 (e i) }
 
 pub sampling-determined : (o : Outcome) (r s : SamplingAnswer) → samplingAnswered r ≡ o → samplingAnswered s ≡ o → r ≡ s
 unfolding number

@@ -10,6 +10,7 @@ use Rattle.rdp.specs.declared.answer.ReplayAnswer.{ReplayAnswer}
 use Rattle.rdp.specs.declared.answer.SizeAnswer.{SizeAnswer}
 use Rattle.rdp.specs.declared.answer.SplitAnswer.{SplitAnswer}
 use Rattle.rdp.specs.declared.answer.YesAnswer.{YesAnswer}
+use Rattle.rdp.specs.declared.answer.ReasonAnswer.{ReasonAnswer}
 use Rattle.rdp.specs.declared.answer.SamplingAnswer.{SamplingAnswer}
 use Rattle.rdp.specs.declared.answer.TextAnswer.{TextAnswer}
 use Rattle.rdp.specs.declared.answer.RunAnswer.{RunAnswer}
@@ -49,6 +50,9 @@ splitAnswered r left = record { refusal = r .refusal; numbers = r .tuning ∷ r 
 
 abbrev pub yesAnswered : YesAnswer → Outcome
 yesAnswered r = record { refusal = r .refusal; numbers = r .yes ∷ []; buffers = [] }
+
+abbrev pub reasonAnswered : ReasonAnswer → Outcome
+reasonAnswered r = record { refusal = r .refusal; numbers = r .reason ∷ []; buffers = [] }
 
 abbrev pub samplingAnswered : SamplingAnswer → Outcome
 samplingAnswered r = record { refusal = r .refusal; numbers = r .flag ∷ r .width ∷ r .height ∷ []; buffers = [] }

@@ -48,6 +48,13 @@ pub struct YesAnswer {
     pub yes: u32,
 }
 
+// The first reason among the bytes that a tile asks for, 0 for none.
+#[repr(C)]
+pub struct ReasonAnswer {
+    pub refusal: u32,
+    pub reason: u32,
+}
+
 // The sampling flag, and the allocation extent.
 #[repr(C)]
 pub struct SamplingAnswer {

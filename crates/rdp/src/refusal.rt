@@ -2,7 +2,7 @@
 ghost use mathlib.Core.Path.{_≡_};
 ghost use mathlib.Core.Bool.{cond};
 
-// A lent bank or key is not 4,096 bytes, a written map not 8,192, a reach map not 512, or a lane map not 32.
+// A lent bank, key or map of reasons is not 4,096 bytes, a written map not 8,192, a reach map not 512, or a lane map not 32.
 pub const LENGTH: u32 = 1;
 
 // A tile field, or a side of a picture that is written or read as a file, is outside its range.
@@ -55,6 +55,9 @@ pub const ENTRIES: u32 = 17;
 
 // No number is left for a load: it is the 65,536th.
 pub const SPENT: u32 = 18;
+
+// A rejected load's reason is 0 or above 255.
+pub const REASON: u32 = 19;
 
 // The refusal's number if its test fails, else what the tests after it say.
 pub fn refuse(number: u32, fails: bool, rest: u32) -> u32

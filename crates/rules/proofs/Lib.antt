@@ -9,6 +9,7 @@ pub mod Bits
 pub mod Maps
 pub mod Numbers
 pub mod Loads
+pub mod Reasons
 pub mod MadeUp
 pub mod Swaps
 pub mod Rows
@@ -22,6 +23,7 @@ pub mod Records
 pub mod ReplayTests
 pub mod Replay
 pub mod ReplayNumbers
+pub mod ReplayReasons
 pub mod ReplayPieces
 pub mod Worked
 pub mod PamWorked

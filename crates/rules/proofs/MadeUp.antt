@@ -12,10 +12,10 @@ use lib.ListN.{length, getD, set, replicate}
 use borrow.Author.Tests.{le-leb, lt-leb, lt-ltb, le-ltb}
 use Rattle.rules.specs.Base.{one, tab, tabFrom, concat, any, howMany}
 use Rattle.rules.specs.Refusal.{Test, first, settle, callOr}
-use Rattle.rules.specs.Calls.{loaded}
+use Rattle.rules.specs.Calls.{leftBy, loaded}
 use Rattle.rules.specs.Load.{Store, store, LoadTile, imageTile, splitStores, wholeStores, wordStores, wordColumns, blockStores}
-use Rattle.rules.specs.Load.{tileRow, tileStores, advance, steps, hardwareStores, entryStores, entryRow, rowStores, stored, written}
-use Rattle.rules.specs.Load.{following, madeUp, wordMadeUp}
+use Rattle.rules.specs.Load.{tileRow, tileStores, advance, steps, hardwareStores, entryStores, entryRow, rowStores, stored}
+use Rattle.rules.specs.Load.{following, Reason, madeUp, wordMadeUp}
 use Rattle.rules.proofs.Loads.{splitBy, either-shape}
 
 -- of how many in a list f holds
@@ -63,15 +63,15 @@ unfolding madeUp
 made-up-within size l = how-many-within (past size) l
 
 -- and so a load's second number is at most its first, refused or not
-pub load-within : (tests : List Test) (l : List Store) (bank map src : List ℕ)
-    (last : ℕ) → getD (loaded tests l bank map src last .numbers) 1 0 ≤ getD (loaded tests l bank map src last .numbers) 0 0
+pub load-within : (tests : List Test) (l : List Store) (bank map reasons src : List ℕ) (why : Reason) (last : ℕ)
+    → let o = loaded tests l bank map reasons src why last in getD (o .numbers) 1 0 ≤ getD (o .numbers) 0 0
 unfolding callOr settle
-load-within tests l bank map src last = go (first tests)
+load-within tests l bank map reasons src why last = go (first tests)
   where
     answers : ℕ → List ℕ
     answers n =
         settle n (length l ∷ madeUp (length src) l ∷ following last ∷ []) (0 ∷ 0 ∷ last ∷ [])
-        (stored src l bank ∷ written (following last) l map ∷ []) (bank ∷ map ∷ []) .numbers
+        (leftBy src l (following last) why bank map reasons) (bank ∷ map ∷ reasons ∷ []) .numbers
 
     go : (n : ℕ) → getD (answers n) 1 0 ≤ getD (answers n) 0 0
     go zero = made-up-within (length src) l
@@ -101,10 +101,12 @@ padded src n (s ∷ l) bank =
     padded src n l _ ∙ ap (λ b. stored src l (set bank (s .at) b)) (padded-byte src n (s .from))
 
 -- and so is what a load leaves, where neither is refused
-pub padded-load : (tests tests′ : List Test) (l : List Store) (bank map src : List ℕ) (last n : ℕ) → first tests ≡ 0 → first tests′ ≡ 0
-    → loaded tests l bank map (src ++ replicate n 0) last .buffers ≡ loaded tests′ l bank map src last .buffers
+pub padded-load : (tests tests′ : List Test) (l : List Store) (bank map reasons src : List ℕ) (why : Reason) (last n : ℕ)
+    → first tests ≡ 0
+    → first tests′ ≡ 0
+    → loaded tests l bank map reasons (src ++ replicate n 0) why last .buffers ≡ loaded tests′ l bank map reasons src why last .buffers
 unfolding callOr settle
-padded-load tests tests′ l bank map src last n z z′ = rw (z, z′, padded src n l bank)
+padded-load tests tests′ l bank map reasons src why last n z z′ = rw (z, z′, padded src n l bank)
 
 -- a store takes its byte from the padding of a source of `size` bytes to n more
 abbrev pub inPadding : ℕ → ℕ → Store → Bool

@@ -9,15 +9,17 @@ use lib.Dec.{eqb}
 use lib.ListN.{length, getD, set, replicate, take, drop, length-take, List·getD-eq-default, length-replicate, getD-replicate}
 use lib.Seq.{getD-take, getD-drop, getD-set-same, getD-set-other, set-out}
 use borrow.Author.Tests.{eq-eqb, eqb-true, not-false, not-true}
-use Rattle.rules.specs.Tile.{bankSize, writtenSize}
-use Rattle.rules.specs.Load.{Store, stored, written, following}
+use Rattle.rules.specs.Tile.{bankSize, writtenSize, reasonsSize}
+use Rattle.rules.specs.Load.{Store, stored, written, following, ordinary, reasoned}
 use Rattle.rules.specs.Key.{keptCount, Bytes}
 use Rattle.rules.specs.Refusal.{Test, Outcome, first, settle, callOr}
+use Rattle.rules.specs.Calls.{leftBy}
 use Rattle.rules.specs.Lister.{lineText}
 use Rattle.rules.specs.Replay.{laneIn, tileIn, modeIn, offsetIn, sizeIn, asksKey, storesIn}
-use Rattle.rules.specs.Replay.{Carried, carried, fresh, countOf, left, lastOf, tested, stepTests, outcome, partOf, inFile}
+use Rattle.rules.specs.Replay.{Carried, carried, fresh, lentOf, countOf, left, lastOf, tested, stepTests, outcome, partOf, inFile}
 use Rattle.rules.specs.Replay.{lineIn, onward, replayed, lines, texts}
 use Rattle.rules.proofs.Loads.{length-stored, length-written}
+use Rattle.rules.proofs.Reasons.{length-reasoned}
 use Rattle.rules.proofs.Ranges.{both}
 use Rattle.rules.proofs.Refused.{call-or-refusal}
 use Rattle.rules.proofs.ReplayTests.{number-left}
@@ -41,6 +43,12 @@ unfolding texts
 texts-append [] k = refl
 texts-append (x ∷ l) k = ap (λ t. lineText x ++ t) (texts-append l k) ∙ sym (append-assoc (lineText x) (texts l) (texts k))
 
+-- what a load that is carried out leaves
+abbrev pub afterLoad : List ℕ → List ℕ → Carried → Carried
+afterLoad src r m =
+    carried (stored src (storesIn r) (m .bank)) (written (following (m .last)) (storesIn r) (m .map))
+    (reasoned ordinary (storesIn r) (m .reasons)) (following (m .last))
+
 -- What a record leaves, by its refusal.
 module _ (end : ℕ) (src r : List ℕ) (m : Carried) where
   abbrev tests : List Test
@@ -56,7 +64,7 @@ module _ (end : ℕ) (src r : List ℕ) (m : Carried) where
   refused-keeps h = go (first tests) (λ e. h (refusal-of ∙ e))
     where
       go : (n : ℕ) → (n ≡ 0 → ⊥)
-          → onward (settle n (countOf r (m .bank) ∷ lastOf r (m .last) ∷ []) (0 ∷ m .last ∷ []) (left src r m) (m .bank ∷ m .map ∷ [])) ≡ m
+          → onward (settle n (countOf r (m .bank) ∷ lastOf r (m .last) ∷ []) (0 ∷ m .last ∷ []) (left src r m) (lentOf m)) ≡ m
       go zero z = absurd (z refl)
       go (suc n) z = refl
 
@@ -67,9 +75,8 @@ module _ (end : ℕ) (src r : List ℕ) (m : Carried) where
     where
       go : (n : ℕ) (k : Bool) → k ≡ true
           → onward (settle n (countOf r (m .bank) ∷ cond k (m .last) (following (m .last)) ∷ []) (0 ∷ m .last ∷ [])
-          (cond k (m .bank ∷ m .map ∷ [])
-          (stored src (storesIn r) (m .bank) ∷ written (following (m .last)) (storesIn r) (m .map) ∷ []))
-          (m .bank ∷ m .map ∷ [])) ≡ m
+          (cond k (lentOf m) (leftBy src (storesIn r) (following (m .last)) ordinary (m .bank) (m .map) (m .reasons)))
+          (lentOf m)) ≡ m
       go zero true h = refl
       go zero false h = absurd (true≢false (sym h))
       go (suc n) k h = refl
@@ -80,10 +87,8 @@ module _ (end : ℕ) (src r : List ℕ) (m : Carried) where
   unfolding outcome tested callOr settle countOf
   key-line e h = rw (sym refusal-of ∙ h, e)
 
-  -- a load stores its list from the part, and takes the number that follows
-  pub load-leaves : asksKey r ≡ false → outcome end src r m .refusal ≡ 0
-      → onward (outcome end src r m)
-      ≡ carried (stored src (storesIn r) (m .bank)) (written (following (m .last)) (storesIn r) (m .map)) (following (m .last))
+  -- a load stores its list from the part, takes the number that follows, and clears the reasons where it stores
+  pub load-leaves : asksKey r ≡ false → outcome end src r m .refusal ≡ 0 → onward (outcome end src r m) ≡ afterLoad src r m
   unfolding outcome tested callOr settle left
   load-leaves e h = rw (sym refusal-of ∙ h, e)
 
@@ -113,9 +118,7 @@ module _ (file : List ℕ) where
         go (yes e) = key-keeps (length file) own r m (not-false (asksKey r) (rw (eq-eqb _ _ e) at h))
         go (no e) = refused-keeps (length file) own r m (λ z. e (sym (refusal-of (length file) own r m) ∙ z))
 
-    pub done-leaves : loads r (m .last) ≡ true
-        → onward (inFile file r m)
-        ≡ carried (stored own (storesIn r) (m .bank)) (written (following (m .last)) (storesIn r) (m .map)) (following (m .last))
+    pub done-leaves : loads r (m .last) ≡ true → onward (inFile file r m) ≡ afterLoad own r m
     unfolding inFile loads
     done-leaves h =
         let b = both (eqb (first (stepTests (length file) r (m .last))) 0) (not (asksKey r)) h in
@@ -132,10 +135,11 @@ module _ (file : List ℕ) where
       go true e ih = ih (onward (inFile file r m))
       go false e ih = rw (not-done-keeps r m e) (ih m)
 
--- What every bank, map and number along a replay keeps: the lengths, that the bank is of bytes, and that the number is one of two bytes.
+-- What the buffers and the number along a replay keep: the lengths, that the bank is of bytes, and that the number is one of two bytes.
 pub record Sound (m : Carried) : Type 0 where
   pub bank-size : length (m .bank) ≡ bankSize
   pub map-size : length (m .map) ≡ writtenSize
+  pub reasons-size : length (m .reasons) ≡ reasonsSize
   pub bytes : Bytes (m .bank)
   pub last-in : m .last ≤ 65535
 
@@ -152,6 +156,7 @@ fresh-sound =
     record {
       bank-size = length-replicate {A = ℕ} bankSize 0;
       map-size = length-replicate {A = ℕ} writtenSize 0;
+      reasons-size = length-replicate {A = ℕ} reasonsSize 0;
       bytes = zero-bytes bankSize;
       last-in = omega arith;
     }
@@ -189,6 +194,7 @@ outcome-sound end src r m s h = go (ℕ-discrete (outcome end src r m .refusal) 
         (record {
           bank-size = length-stored src (storesIn r) (m .bank) ∙ h .bank-size;
           map-size = length-written (following (m .last)) (storesIn r) (m .map) ∙ h .map-size;
+          reasons-size = length-reasoned ordinary (storesIn r) (m .reasons) ∙ h .reasons-size;
           bytes = stored-bytes src (storesIn r) (m .bank) s (h .bytes);
           last-in = omega (arith, number-left end r (m .last) k (sym (refusal-of end src r m) ∙ e));
         })

@@ -11,10 +11,11 @@ use lib.ListN.{length, take, drop, length-append, take-append-drop, drop-of-leng
 use lib.Seq.{length-take-le, drop-drop}
 use borrow.Author.Tests.{ltb-false, not-true}
 use Rattle.rules.specs.Base.{recordOf}
-use Rattle.rules.specs.Load.{stored, written, following}
+use Rattle.rules.specs.Load.{following, ordinary}
 use Rattle.rules.specs.Refusal.{Outcome, first, settle, callOr}
+use Rattle.rules.specs.Calls.{leftBy}
 use Rattle.rules.specs.Replay.{replaySize, offsetIn, sizeIn, asksKey, storesIn, recordTests, takesPart}
-use Rattle.rules.specs.Replay.{Carried, spent, countOf, left, lastOf, tested, outcome, partOf, inFile}
+use Rattle.rules.specs.Replay.{Carried, lentOf, spent, countOf, left, lastOf, tested, outcome, partOf, inFile}
 use Rattle.rules.specs.Replay.{lineIn, onward, replayed, lines, texts}
 use Rattle.rules.specs.Replay.{recordCount, firstRecords, recordsIn, Piece, atHand, partIn, inPiece, ready}
 use Rattle.rules.proofs.Ranges.{both}
@@ -40,9 +41,8 @@ unread end src other r m h =
     with-part : List ℕ → ℕ → Bool → ℕ → Outcome
     with-part part n k w =
         settle (cond (eqb n 0) w n) (countOf r (m .bank) ∷ lastOf r (m .last) ∷ []) (0 ∷ m .last ∷ [])
-        (cond k (m .bank ∷ m .map ∷ [])
-        (stored part (storesIn r) (m .bank) ∷ written (following (m .last)) (storesIn r) (m .map) ∷ []))
-        (m .bank ∷ m .map ∷ [])
+        (cond k (lentOf m) (leftBy part (storesIn r) (following (m .last)) ordinary (m .bank) (m .map) (m .reasons)))
+        (lentOf m)
 
     go : (n : ℕ) (k : Bool) → (eqb n 0 && not k) ≡ false → (w : ℕ) → with-part src n k w ≡ with-part other n k w
     go zero true e w = refl

@@ -8,12 +8,12 @@ use lib.Dec.{ltb}
 use lib.ListN.{length}
 use borrow.Author.Tests.{ltb-false, le-ltb}
 use Rattle.rules.specs.Tile.{Tile, loadFieldsOutside}
-use Rattle.rules.specs.Load.{stored, written, following}
+use Rattle.rules.specs.Load.{stored, written, following, ordinary, reasoned}
 use Rattle.rules.specs.Key.{keptCount}
 use Rattle.rules.specs.Refusal.{Test, _if_, first, settle, callOr}
 use Rattle.rules.specs.Calls.{sourceOutside, numberTests, pairTests, unknownPair}
 use Rattle.rules.specs.Replay.{replaySize, kindIn, laneIn, tileIn, modeIn, imageIn, sizeIn, asksKey, storesIn, outsideIn}
-use Rattle.rules.specs.Replay.{beyond, recordTests, carried, spent, countOf, left, lastOf, tested, stepTests, outcome, partOf}
+use Rattle.rules.specs.Replay.{beyond, recordTests, Carried, lentOf, spent, countOf, left, lastOf, tested, stepTests, outcome, partOf}
 use Rattle.rules.specs.Replay.{shortPart, ownTests, replayTests, replayCall}
 use Rattle.rules.proofs.Ranges.{neither}
 use Rattle.rules.proofs.Refused.{Numbered, numbered, first-zero, first-front, first-after}
@@ -83,31 +83,32 @@ module _ (end : ℕ) (r : List ℕ) where
   number-left last k z = ltb-false 65534 last (rw k at (step-passed last z .1))
 
   -- what is answered and left then is the record's outcome
-  module _ (src bank map : List ℕ) (last : ℕ) (passed : first (stepTests end r last) ≡ 0) where
-    pub key-done : (count : ℕ) → asksKey r ≡ true → count ≡ keptCount (tileIn r) (modeIn r) (laneIn r) bank
-        → record { refusal = 0; numbers = count ∷ last ∷ []; buffers = bank ∷ map ∷ [] } ≡ outcome end src r (carried bank map last)
+  module _ (src : List ℕ) (m : Carried) (passed : first (stepTests end r (m .last)) ≡ 0) where
+    pub key-done : (count : ℕ) → asksKey r ≡ true → count ≡ keptCount (tileIn r) (modeIn r) (laneIn r) (m .bank)
+        → record { refusal = 0; numbers = count ∷ m .last ∷ []; buffers = lentOf m } ≡ outcome end src r m
     unfolding outcome tested callOr settle countOf left
     key-done count k e = rw (passed, k, e)
 
-    pub load-done : (bank′ map′ : List ℕ) (count : ℕ) → asksKey r ≡ false → count ≡ length (storesIn r)
-        → bank′ ≡ stored src (storesIn r) bank → map′ ≡ written (following last) (storesIn r) map
-        → record { refusal = 0; numbers = count ∷ following last ∷ []; buffers = bank′ ∷ map′ ∷ [] }
-        ≡ outcome end src r (carried bank map last)
+    pub load-done : (bank′ map′ reasons′ : List ℕ) (count : ℕ) → asksKey r ≡ false → count ≡ length (storesIn r)
+        → bank′ ≡ stored src (storesIn r) (m .bank)
+        → map′ ≡ written (following (m .last)) (storesIn r) (m .map)
+        → reasons′ ≡ reasoned ordinary (storesIn r) (m .reasons)
+        → record { refusal = 0; numbers = count ∷ following (m .last) ∷ []; buffers = bank′ ∷ map′ ∷ reasons′ ∷ [] } ≡ outcome end src r m
     unfolding outcome tested callOr settle countOf left
-    load-done bank′ map′ count k e f g = rw (passed, k, e, f, g)
+    load-done bank′ map′ reasons′ count k e f g h = rw (passed, k, e, f, g, h)
 
 -- The call for one record is the record's outcome, where no test of the call fails.
-module _ (bank map r : List ℕ) (end : ℕ) (part : List ℕ) (last : ℕ) (z : first (replayTests bank map r end part last) ≡ 0) where
-  pub own-passed : first (stepTests end r last) ≡ 0
+module _ (m : Carried) (r : List ℕ) (end : ℕ) (part : List ℕ) (z : first (replayTests m r end part) ≡ 0) where
+  pub own-passed : first (stepTests end r (m .last)) ≡ 0
   own-passed =
-      let rest = shortPart part r ∷ spent last r ∷ [] in
-      let passed = lent-passed bank map (ownTests end r part last) z .1 in
+      let rest = shortPart part r ∷ spent (m .last) r ∷ [] in
+      let passed = lent-passed (m .bank) (m .map) (m .reasons) (ownTests end r part (m .last)) z .1 in
       let own = first-front (recordTests end r) rest (tests-numbered end r) passed in
       let after = sym (first-after (recordTests end r) rest (tests-numbered end r) own) ∙ passed in
-      step-left end r own last ∙ first-zero (shortPart part r) (spent last r ∷ []) (λ e. omega arith) after .1
+      step-left end r own (m .last) ∙ first-zero (shortPart part r) (spent (m .last) r ∷ []) (λ e. omega arith) after .1
 
-  pub call-outcome : outcome end (partOf r part) r (carried bank map last) ≡ replayCall bank map r end part last
+  pub call-outcome : outcome end (partOf r part) r m ≡ replayCall m r end part
   unfolding outcome replayCall tested callOr
   call-outcome =
-      ap (λ n. settle n (countOf r bank ∷ lastOf r last ∷ []) (0 ∷ last ∷ []) (left (partOf r part) r (carried bank map last))
-      (bank ∷ map ∷ [])) (own-passed ∙ sym z)
+      ap (λ n. settle n (countOf r (m .bank) ∷ lastOf r (m .last) ∷ []) (0 ∷ m .last ∷ []) (left (partOf r part) r m) (lentOf m))
+      (own-passed ∙ sym z)

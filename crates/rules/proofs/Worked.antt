@@ -5,12 +5,12 @@ use Rattle.rules.specs.Reading.{trail, given, andThen, prepend, upTo}
 use Rattle.rules.specs.Texdec.{accepted, acceptedDirect, formatOf}
 use Rattle.rules.specs.Sampling.{flag, texels}
 use Rattle.rules.specs.Load.{stored, written, list4, splitStores, wholeStores, wordStores, blockStores, tileStores, tlutStores}
-use Rattle.rules.specs.Load.{hardwareStores, entryStores, entryRow, rowStores, madeUp}
+use Rattle.rules.specs.Load.{hardwareStores, entryStores, entryRow, rowStores, reasoned, madeUp}
 use Rattle.rules.specs.Calls.{blockCall}
 use Rattle.rules.specs.Picture.{picture, visiblePicture, plain, plainRow, lookup, lookupRow, texel, paletted, direct}
 use Rattle.rules.specs.Key.{key, keyOf, kept, keptCount}
 use Rattle.rules.specs.Reach.{rowBytes, trailingZeros, rowPeriod, reachRows, doubled, reachAt, reachRow, reachPlain, reachWhole}
-use Rattle.rules.specs.Reach.{reach, hasLoad}
+use Rattle.rules.specs.Reach.{reach, hasLoad, paletteOrder, firstReason, rejection}
 use Rattle.rules.specs.Refusal.{first, settle, callOr, call}
 use Rattle.rules.specs.Lister.{recordTile, lineOf, recordLine, lowDigits, reversed, decimal, lineText, listing}
 use Rattle.rules.specs.Replay.{storesIn, outsideIn, recordTests, countOf, left, tested, outcome, inFile, replayed, lines, texts}
@@ -25,4 +25,5 @@ unfolding table tab tabFrom concat mem any distinct trail given andThen prepend 
     written stamps stamped tileStores storesIn outsideIn recordTests countOf left tested outcome inFile replayed lines texts replayText
     all same howMany madeUp entryStores entryRow blockCall numberAt isWritten
     rowBytes trailingZeros rowPeriod reachRows doubled reachAt reachRow reachPlain reachWhole reach hasLoad
+    reasoned paletteOrder firstReason rejection
 worked = tt

@@ -6,20 +6,21 @@ use lib.Dec.{eqb, ltb}
 use lib.ListN.{length}
 use Rattle.rules.specs.Base.{one, over}
 use Rattle.rules.specs.Refusal.{Test, _if_, Outcome, call, callOr}
-use Rattle.rules.specs.Tile.{Tile, bankSize, mapSize, writtenSize, laneMapSize}
+use Rattle.rules.specs.Tile.{Tile, bankSize, mapSize, writtenSize, reasonsSize, laneMapSize}
 use Rattle.rules.specs.Tile.{loadFieldsOutside, tileOutside, modeOutside, laneOutside}
 use Rattle.rules.specs.Texdec.{accepted, stepKnows}
 use Rattle.rules.specs.Sampling.{flag, extentWidth, extentHeight, lookupTexels}
 use Rattle.rules.specs.Load.{Store, loadTile, blockStores, tileStores, tlutStores, stored, written, following, madeUp}
+use Rattle.rules.specs.Load.{Reason, reasonOutside, reasoned}
 use Rattle.rules.specs.Reading.{Reading, given, trail, encoded}
 use Rattle.rules.specs.Picture.{plain, lookup}
-use Rattle.rules.specs.Reach.{reachMap, hasLoad, laneMap}
+use Rattle.rules.specs.Reach.{reachMap, hasLoad, rejection, laneMap}
 use Rattle.rules.specs.Key.{key, keptCount}
 
 -- The tests, by their numbers.
 
 -- "a lent bank or key is not 4,096 bytes, a .. reach map not 512, or a lane map not 32"; the written map "becomes 8,192 bytes ..; refusal
--- 1 now tests that length"
+-- 1 now tests that length"; of the reasons "refusal 1 tests its length too"
 abbrev pub notBytes : ℕ → List ℕ → Bool
 notBytes n lent = not (eqb (length lent) n)
 
@@ -57,47 +58,56 @@ badPair t mode = 5 if not (accepted mode (t .fmt) (t .siz))
 abbrev pub unknownPair : Tile → ℕ → Test
 unknownPair t mode = 9 if not (stepKnows mode (t .fmt) (t .siz))
 
--- the tests of a lent bank and written map stand before all others of the calls that take both
-abbrev pub lentTests : List ℕ → List ℕ → List Test → List Test
-lentTests bank map l = (1 if notBytes bankSize bank) ∷ (1 if notBytes writtenSize map) ∷ l
+-- the tests of a lent bank, written map and reasons stand before all others of the calls that take them
+abbrev pub lentTests : List ℕ → List ℕ → List ℕ → List Test → List Test
+lentTests bank map reasons l =
+    (1 if notBytes bankSize bank) ∷ (1 if notBytes writtenSize map) ∷ (1 if notBytes reasonsSize reasons) ∷ l
 
 -- "18, the 65,536th load (any number passed above 65,534), tested last"
 abbrev pub numberSpent : ℕ → Bool
 numberSpent last = ltb 65534 last
 
--- Loads: bank and written map are lent. The tests of a load's numbers, for a source of `size` bytes, stand before those that a caller
+-- "19, reason 0 or above 255, tested after 4 and 11 and before 18"
+abbrev pub badReason : Reason → Test
+badReason why = 19 if reasonOutside why
+
+-- Loads, ordinary and rejected: bank, written map and reasons are lent. The tests of a load's numbers, for a source of `size` bytes, stand before those that a caller
 -- may add.
 abbrev pub numberTests : ℕ → Tile → ℕ → Bool → List Test → List Test
 numberTests size t image outside l = (2 if loadFieldsOutside t) ∷ (4 if sourceOutside size image) ∷ (4 if outside) ∷ l
 
-abbrev pub loadTests : List ℕ → List ℕ → List ℕ → Tile → ℕ → Bool → ℕ → List Test
-loadTests bank map src t image outside last =
-    lentTests bank map (numberTests (length src) t image outside ((18 if numberSpent last) ∷ []))
+abbrev pub loadTests : List ℕ → List ℕ → List ℕ → List ℕ → Tile → ℕ → Bool → Reason → ℕ → List Test
+loadTests bank map reasons src t image outside why last =
+    lentTests bank map reasons (numberTests (length src) t image outside (badReason why ∷ (18 if numberSpent last) ∷ []))
+
+-- what a load of that number leaves in the three buffers: "A rejected load stores and marks as any load does and also leaves its reason"
+abbrev pub leftBy : List ℕ → List Store → ℕ → Reason → List ℕ → List ℕ → List ℕ → List (List ℕ)
+leftBy src l number why bank map reasons = stored src l bank ∷ written number l map ∷ reasoned why l reasons ∷ []
 
 -- The count of stores is answered, how many of their bytes were made up, and the load's number. "A load that stores nothing still takes a
 -- number; a refused one takes none and hands back the number passed." `last` is "the last number given".
-abbrev pub loaded : List Test → List Store → List ℕ → List ℕ → List ℕ → ℕ → Outcome
-loaded tests l bank map src last =
+abbrev pub loaded : List Test → List Store → List ℕ → List ℕ → List ℕ → List ℕ → Reason → ℕ → Outcome
+loaded tests l bank map reasons src why last =
     callOr tests
     (length l ∷ madeUp (length src) l ∷ following last ∷ [])
     (0 ∷ 0 ∷ last ∷ [])
-    (stored src l bank ∷ written (following last) l map ∷ [])
-    (bank ∷ map ∷ [])
+    (leftBy src l (following last) why bank map reasons)
+    (bank ∷ map ∷ reasons ∷ [])
 
-unfoldable pub blockCall : List ℕ → List ℕ → List ℕ → Tile → ℕ → ℕ → ℕ → ℕ → Outcome
-blockCall bank map src t image dxt words last =
-    loaded (loadTests bank map src t image (blockOutside dxt words) last)
-    (blockStores (loadTile t) image dxt words) bank map src last
+unfoldable pub blockCall : List ℕ → List ℕ → List ℕ → List ℕ → Tile → ℕ → ℕ → ℕ → Reason → ℕ → Outcome
+blockCall bank map reasons src t image dxt words why last =
+    loaded (loadTests bank map reasons src t image (blockOutside dxt words) why last)
+    (blockStores (loadTile t) image dxt words) bank map reasons src why last
 
-unfoldable pub tileCall : List ℕ → List ℕ → List ℕ → Tile → ℕ → ℕ → ℕ → ℕ → ℕ → Outcome
-tileCall bank map src t image rows words stride last =
-    loaded (loadTests bank map src t image (tileLoadOutside rows words stride) last)
-    (tileStores (loadTile t) image rows words stride) bank map src last
+unfoldable pub tileCall : List ℕ → List ℕ → List ℕ → List ℕ → Tile → ℕ → ℕ → ℕ → ℕ → Reason → ℕ → Outcome
+tileCall bank map reasons src t image rows words stride why last =
+    loaded (loadTests bank map reasons src t image (tileLoadOutside rows words stride) why last)
+    (tileStores (loadTile t) image rows words stride) bank map reasons src why last
 
-unfoldable pub tlutCall : List ℕ → List ℕ → List ℕ → Tile → ℕ → ℕ → ℕ → ℕ → ℕ → Outcome
-tlutCall bank map src t image count rows stride last =
-    loaded (loadTests bank map src t image (tlutOutside count rows stride) last)
-    (tlutStores (loadTile t) image count rows stride) bank map src last
+unfoldable pub tlutCall : List ℕ → List ℕ → List ℕ → List ℕ → Tile → ℕ → ℕ → ℕ → ℕ → Reason → ℕ → Outcome
+tlutCall bank map reasons src t image count rows stride why last =
+    loaded (loadTests bank map reasons src t image (tlutOutside count rows stride) why last)
+    (tlutStores (loadTile t) image count rows stride) bank map reasons src why last
 
 -- The sampling record: flag and allocation extent.
 abbrev pub samplingTests : Tile → ℕ → List Test
@@ -107,7 +117,7 @@ unfoldable pub samplingCall : Tile → ℕ → Outcome
 samplingCall t mode =
     call (samplingTests t mode) (one (flag t mode) ∷ extentWidth t mode ∷ extentHeight t mode ∷ []) [] []
 
--- Reach, has-load and the lane check.
+-- Reach, has-load, the question for a reason and the lane check.
 abbrev pub mapTests : ℕ → List ℕ → Tile → ℕ → List Test
 mapTests size map t mode = (1 if notBytes size map) ∷ samplingTests t mode
 
@@ -116,6 +126,10 @@ reachCall t mode map = call (mapTests mapSize map t mode) [] (reachMap t mode �
 
 unfoldable pub hasLoadCall : Tile → ℕ → List ℕ → Outcome
 hasLoadCall t mode map = call (mapTests writtenSize map t mode) (one (hasLoad t mode map) ∷ []) [] []
+
+-- "Reasons are a lent map .., 0 for none": the question answers 0 where there is none
+unfoldable pub rejectionCall : Tile → ℕ → List ℕ → Outcome
+rejectionCall t mode reasons = call (mapTests reasonsSize reasons t mode) (rejection t mode reasons ∷ []) [] []
 
 abbrev pub laneTests : List ℕ → List ℕ → List Test
 laneTests bank map = (1 if notBytes bankSize bank) ∷ (1 if notBytes laneMapSize map) ∷ []

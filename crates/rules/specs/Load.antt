@@ -1,5 +1,5 @@
 -- What a load stores, in order: "Rules for loads (000)". A load is its list of stores.
-use mathlib.Core.Bool.{Bool, cond, _&&_, _||_}
+use mathlib.Core.Bool.{Bool, false, cond, _&&_, _||_}
 use mathlib.Core.List.{List, [], _∷_, map}
 use Prim.Native.Nat.{ℕ, _+_, _-_, _*_, _/_, _%_, _^_}
 use lib.Bits.{bitAnd, bitXor}
@@ -172,6 +172,26 @@ written n l m = stamps n m (addresses l)
 -- the number of the load after the one whose number is given: "counted from 1 since the fresh state"
 abbrev pub following : ℕ → ℕ
 following last = last + 1
+
+-- Document 02's item 8: an ordinary load, or a rejected one "with a reason number from 1 to 255"
+pub data Reason : Type 0 where
+  ordinary : Reason
+  rejected : ℕ → Reason
+
+-- "reason 0 or above 255"
+abbrev pub reasonOutside : Reason → Bool
+reasonOutside ordinary = false
+reasonOutside (rejected n) = eqb n 0 || ltb 255 n
+
+-- what it leaves at an address: "its reason", or "0 for none": "an ordinary load clears it"
+abbrev pub reasonLeft : Reason → ℕ
+reasonLeft ordinary = 0
+reasonLeft (rejected n) = n
+
+-- "leaves its reason at each address": the reasons after the stores, one after the other
+unfoldable pub reasoned : Reason → List Store → List ℕ → List ℕ
+reasoned why [] reasons = reasons
+reasoned why (s ∷ l) reasons = reasoned why l (set reasons (s .at) (reasonLeft why))
 
 -- "the number of stores in the rule's list whose source place is at or past the length. A replicated byte counts each time it is
 -- stored."

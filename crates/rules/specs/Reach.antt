@@ -1,11 +1,11 @@
--- The addresses that a tile can reach, in order; whether one was loaded; the lane check.
+-- The addresses that a tile can reach, in order; whether one was loaded, and which reason is the first among them; the lane check.
 use mathlib.Core.Bool.{Bool, true, false, cond, not, _&&_, _||_}
-use mathlib.Core.List.{List, [], _∷_}
+use mathlib.Core.List.{List, [], _∷_, _++_}
 use Prim.Native.Nat.{ℕ, zero, suc, _+_, _-_, _*_, _/_, _%_, _^_, min, max}
 use lib.Dec.{eqb, ltb, leb}
 use lib.ListN.{getD, replicate}
 use Rattle.rules.specs.Base.{odd, tab, concat, marks, isWritten, any}
-use Rattle.rules.specs.Tile.{Tile, laneMapSize, freshMap}
+use Rattle.rules.specs.Tile.{Tile, paletteBase, laneMapSize, freshMap}
 use Rattle.rules.specs.Texdec.{tlut}
 use Rattle.rules.specs.Sampling.{flag, repeats, isRgba32}
 use Rattle.rules.specs.Picture.{address}
@@ -76,6 +76,27 @@ reachMap t mode = marks freshMap (reach t mode)
 -- "A tile has a load if reach and the written map meet."
 unfoldable pub hasLoad : Tile → ℕ → List ℕ → Bool
 hasLoad t mode map = any (isWritten map) (reach t mode)
+
+-- Document 02's item 8. "in modes 2 and 3 then in palette order: the 128 bytes of the tile's palette for siz 0, else the upper half"
+unfoldable pub paletteOrder : Tile → ℕ → List ℕ
+paletteOrder t mode =
+    cond (tlut mode)
+    (cond (eqb (t .siz) 0) (tab 128 (λ i. paletteBase + 128 * t .palette + i)) (tab 2048 (λ i. paletteBase + i)))
+    []
+
+-- a reason where there is one, else another
+abbrev pub orElse : ℕ → ℕ → ℕ
+orElse zero other = other
+orElse (suc n) other = suc n
+
+-- "the reason at the first address .. that has one", "0 for none"
+unfoldable pub firstReason : List ℕ → List ℕ → ℕ
+firstReason reasons [] = 0
+firstReason reasons (a ∷ l) = orElse (getD reasons a 0) (firstReason reasons l)
+
+-- "The question gives the reason at the first address in reach order that has one, and in modes 2 and 3 then in palette order"
+unfoldable pub rejection : Tile → ℕ → List ℕ → ℕ
+rejection t mode reasons = firstReason reasons (reach t mode ++ paletteOrder t mode)
 
 -- "Its bit is set exactly when its second, third or fourth pair of bytes differs from its first."
 abbrev pub slotByte : List ℕ → ℕ → ℕ → ℕ

@@ -1,16 +1,17 @@
--- The replay of a capture's loads, document 02's item 1: records of 48 bytes in, a line each out, over a bank, a written map and the
--- last load's number, which are carried from record to record.
+-- The replay of a capture's loads, document 02's item 1: records of 48 bytes in, a line each out, over a bank, a written map, reasons and
+-- the last load's number, which are carried from record to record.
 use mathlib.Core.Bool.{Bool, cond, not, _&&_, _||_}
 use mathlib.Core.List.{List, [], _∷_, _++_}
 use Prim.Native.Nat.{ℕ, suc, _+_, _-_, _*_, _/_}
 use lib.Dec.{eqb, ltb}
 use lib.ListN.{length, getD, take, drop}
 use Rattle.rules.specs.Base.{tab, recordOf, over}
-use Rattle.rules.specs.Tile.{Tile, freshBank, freshWritten}
-use Rattle.rules.specs.Load.{Store, loadTile, blockStores, tileStores, tlutStores, stored, written, following}
+use Rattle.rules.specs.Tile.{Tile, freshBank, freshWritten, freshReasons}
+use Rattle.rules.specs.Load.{Store, loadTile, blockStores, tileStores, tlutStores, following, ordinary}
 use Rattle.rules.specs.Key.{keptCount}
 use Rattle.rules.specs.Refusal.{Test, _if_, Outcome, first, callOr}
-use Rattle.rules.specs.Calls.{lentTests, numberSpent, numberTests, pairTests, unknownPair, blockOutside, tileLoadOutside, tlutOutside}
+use Rattle.rules.specs.Calls.{lentTests, numberSpent, numberTests, leftBy, pairTests, unknownPair}
+use Rattle.rules.specs.Calls.{blockOutside, tileLoadOutside, tlutOutside}
 use Rattle.rules.specs.Lister.{byte, two, recordTile, recordMode, lineText}
 
 -- "records of 48 bytes without a header"
@@ -100,13 +101,18 @@ recordTests end r =
 pub record Carried : Type 0 where
   pub bank : List ℕ
   pub map : List ℕ
+  pub reasons : List ℕ
   pub last : ℕ
 
-abbrev pub carried : List ℕ → List ℕ → ℕ → Carried
-carried bank map last = record { bank = bank; map = map; last = last }
+abbrev pub carried : List ℕ → List ℕ → List ℕ → ℕ → Carried
+carried bank map reasons last = record { bank = bank; map = map; reasons = reasons; last = last }
 
 abbrev pub fresh : Carried
-fresh = carried freshBank freshWritten 0
+fresh = carried freshBank freshWritten freshReasons 0
+
+-- its buffers, in the order in which they are lent
+abbrev pub lentOf : Carried → List (List ℕ)
+lentOf m = m .bank ∷ m .map ∷ m .reasons ∷ []
 
 -- "18, the 65,536th load (any number passed above 65,534), tested last"; a key takes no number
 abbrev pub spent : ℕ → List ℕ → Test
@@ -116,11 +122,12 @@ spent last r = 18 if (not (asksKey r) && numberSpent last)
 unfoldable pub countOf : List ℕ → List ℕ → ℕ
 countOf r bank = cond (asksKey r) (keptCount (tileIn r) (modeIn r) (laneIn r) bank) (length (storesIn r))
 
--- what a record leaves: a key changes nothing, a load stores and leaves its number
+-- what a record leaves: a key changes nothing; a load stores, leaves its number, and as "an ordinary load clears" the reasons where it
+-- stores
 unfoldable pub left : List ℕ → List ℕ → Carried → List (List ℕ)
 left src r m =
-    cond (asksKey r) (m .bank ∷ m .map ∷ [])
-    (stored src (storesIn r) (m .bank) ∷ written (following (m .last)) (storesIn r) (m .map) ∷ [])
+    cond (asksKey r) (lentOf m)
+    (leftBy src (storesIn r) (following (m .last)) ordinary (m .bank) (m .map) (m .reasons))
 
 -- the last number after it: "A load that stores nothing still takes a number"
 abbrev pub lastOf : List ℕ → ℕ → ℕ
@@ -134,7 +141,7 @@ tested tests src r m =
     (countOf r (m .bank) ∷ lastOf r (m .last) ∷ [])
     (0 ∷ m .last ∷ [])
     (left src r m)
-    (m .bank ∷ m .map ∷ [])
+    (lentOf m)
 
 -- its own tests, and the number's last
 abbrev pub stepTests : ℕ → List ℕ → ℕ → List Test
@@ -157,7 +164,7 @@ abbrev pub lineIn : Outcome → List ℕ
 lineIn o = o .refusal ∷ getD (o .numbers) 0 0 ∷ []
 
 abbrev pub onward : Outcome → Carried
-onward o = carried (getD (o .buffers) 0 []) (getD (o .buffers) 1 []) (getD (o .numbers) 1 0)
+onward o = carried (getD (o .buffers) 0 []) (getD (o .buffers) 1 []) (getD (o .buffers) 2 []) (getD (o .numbers) 1 0)
 
 -- the lines of records one after the other, and the state after them, where `step` is a record's outcome
 unfoldable pub replayed : (List ℕ → Carried → Outcome) → List (List ℕ) → Carried → Carried
@@ -196,11 +203,11 @@ shortPart part r = 11 if (not (asksKey r) && ltb (length part) (sizeIn r))
 abbrev pub ownTests : ℕ → List ℕ → List ℕ → ℕ → List Test
 ownTests end r part last = recordTests end r ++ (shortPart part r ∷ spent last r ∷ [])
 
-abbrev pub replayTests : List ℕ → List ℕ → List ℕ → ℕ → List ℕ → ℕ → List Test
-replayTests bank map r end part last = lentTests bank map (ownTests end r part last)
+abbrev pub replayTests : Carried → List ℕ → ℕ → List ℕ → List Test
+replayTests m r end part = lentTests (m .bank) (m .map) (m .reasons) (ownTests end r part (m .last))
 
-unfoldable pub replayCall : List ℕ → List ℕ → List ℕ → ℕ → List ℕ → ℕ → Outcome
-replayCall bank map r end part last = tested (replayTests bank map r end part last) (partOf r part) r (carried bank map last)
+unfoldable pub replayCall : Carried → List ℕ → ℕ → List ℕ → Outcome
+replayCall m r end part = tested (replayTests m r end part) (partOf r part) r m
 
 -- A run of records, with a piece of the companion file at hand: the file's length, where the piece starts, and its bytes.
 pub record Piece : Type 0 where
@@ -241,19 +248,19 @@ replayRoom = 22
 abbrev pub shortText : List ℕ → List ℕ → Test
 shortText input out = 6 if ltb (length out) (replayRoom * recordCount input)
 
-abbrev pub runTests : List ℕ → List ℕ → List ℕ → List ℕ → List Test
-runTests bank map input out = lentTests bank map (shortText input out ∷ [])
+abbrev pub runTests : Carried → List ℕ → List ℕ → List Test
+runTests m input out = lentTests (m .bank) (m .map) (m .reasons) (shortText input out ∷ [])
 
--- The run replays the records that are ready. How many they are, the length of their text and the last load's number are answered; bank
--- and map are left as they stand then, and the text at the front of `out`. A refusal "hands back the number passed".
-unfoldable pub runCall : List ℕ → List ℕ → List ℕ → Piece → List ℕ → ℕ → Outcome
-runCall bank map input p out last =
+-- The run replays the records that are ready. How many they are, the length of their text and the last load's number are answered; bank,
+-- map and reasons are left as they stand then, and the text at the front of `out`. A refusal "hands back the number passed".
+unfoldable pub runCall : Carried → List ℕ → Piece → List ℕ → Outcome
+runCall m input p out =
     let n : ℕ = ready p (recordsIn input) in
     let l : List (List ℕ) = firstRecords input n in
-    let text : List ℕ = texts (lines (inPiece p) l (carried bank map last)) in
-    let m : Carried = replayed (inPiece p) l (carried bank map last) in
-    callOr (runTests bank map input out)
-    (n ∷ length text ∷ m .last ∷ [])
-    (0 ∷ 0 ∷ last ∷ [])
-    (m .bank ∷ m .map ∷ over text out ∷ [])
-    (bank ∷ map ∷ out ∷ [])
+    let text : List ℕ = texts (lines (inPiece p) l m) in
+    let m′ : Carried = replayed (inPiece p) l m in
+    callOr (runTests m input out)
+    (n ∷ length text ∷ m′ .last ∷ [])
+    (0 ∷ 0 ∷ m .last ∷ [])
+    (m′ .bank ∷ m′ .map ∷ m′ .reasons ∷ over text out ∷ [])
+    (m .bank ∷ m .map ∷ m .reasons ∷ out ∷ [])

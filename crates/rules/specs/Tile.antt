@@ -30,6 +30,10 @@ mapSize = 512
 abbrev pub writtenSize : ℕ
 writtenSize = 8192
 
+-- document 02's item 8: "Reasons are a lent map of 4,096 bytes"
+abbrev pub reasonsSize : ℕ
+reasonsSize = 4096
+
 -- the bytes of a lane map
 abbrev pub laneMapSize : ℕ
 laneMapSize = 32
@@ -40,6 +44,10 @@ freshBank = replicate bankSize 0
 
 abbrev pub freshWritten : List ℕ
 freshWritten = replicate writtenSize 0
+
+-- reasons, "0 for none"
+abbrev pub freshReasons : List ℕ
+freshReasons = replicate reasonsSize 0
 
 -- a reach map with no address marked
 abbrev pub freshMap : List ℕ

@@ -1,18 +1,18 @@
 -- "Banks and texels worked by hand": P1 to P12 in one table, with the fourth slip, the lister's example, a wall that repeats, a replay,
--- what loads make up and their numbers beside them. "Fields not named are 0, the bank is fresh." `Rattle.rules.proofs.Worked` proves
+-- what loads make up, their numbers and their reasons beside them. "Fields not named are 0, the bank is fresh." `Rattle.rules.proofs.Worked` proves
 -- every row.
 use mathlib.Core.Bool.{Bool, true}
 use mathlib.Core.List.{List, [], _∷_, _++_, map}
-use Prim.Native.Nat.{ℕ, _+_}
-use lib.ListN.{getD, set, replicate, take, drop}
+use Prim.Native.Nat.{ℕ, _+_, _-_}
+use lib.ListN.{length, getD, set, replicate, take, drop}
 use Rattle.rules.specs.Base.{one, tab, concat, all, same, numberAt}
 use Rattle.rules.specs.Reading.{trail}
-use Rattle.rules.specs.Tile.{Tile, tileFrom, bankSize, freshWritten}
+use Rattle.rules.specs.Tile.{Tile, tileFrom, bankSize, reasonsSize, freshWritten, freshReasons}
 use Rattle.rules.specs.Refusal.{Outcome}
 use Rattle.rules.specs.Texdec.{rgba16Texel, ia4Texel, ia8Texel}
 use Rattle.rules.specs.Sampling.{flag}
-use Rattle.rules.specs.Load.{Store, loadTile, stored, blockStores, tlutStores, madeUp}
-use Rattle.rules.specs.Reach.{hasLoad}
+use Rattle.rules.specs.Load.{Store, loadTile, stored, blockStores, tlutStores, Reason, ordinary, rejected, madeUp}
+use Rattle.rules.specs.Reach.{hasLoad, paletteOrder, rejection}
 use Rattle.rules.specs.Calls.{blockCall}
 use Rattle.rules.specs.Picture.{picture, texel}
 use Rattle.rules.specs.Key.{key, keptCount}
@@ -155,9 +155,14 @@ p6MadeUp size = madeUp size (blockStores (loadTile (tile 0 3 0 0 0 0)) 3 0 1)
 abbrev p8MadeUp : ℕ → ℕ → ℕ
 p8MadeUp image size = madeUp size (tlutStores (loadTile (tile 0 0 0 256 0 0)) image 1 1 0)
 
--- a block load of so many words whose source has two bytes, one of them zero, after a load of the number `last`
+-- a block load of so many words whose source has two bytes, one of them zero, over some reasons, after a load of the number `last`
+abbrev reasonedBlock : List ℕ → ℕ → ℕ → Reason → ℕ → Outcome
+reasonedBlock reasons image words why last =
+    blockCall fresh freshWritten reasons (0 ∷ 2 ∷ []) (tile 0 2 0 0 0 0) image 0 words why last
+
+-- an ordinary one, over none
 abbrev cutBlock : ℕ → ℕ → ℕ → Outcome
-cutBlock image words last = blockCall fresh freshWritten (0 ∷ 2 ∷ []) (tile 0 2 0 0 0 0) image 0 words last
+cutBlock image words last = reasonedBlock freshReasons image words ordinary last
 
 -- Document 02's item 7. What it answers, and the first bytes of the record that it leaves: its refusal and numbers, and those of
 -- addresses 0, 7 and 8.
@@ -172,6 +177,31 @@ recordBytes o =
 -- whether a tile of one texel at the bank's start has a load, by a record with these four bytes and no others
 abbrev loadedBy : List ℕ → ℕ
 loadedBy l = one (hasLoad (tile 4 1 0 0 1 1) 0 (l ++ replicate 8188 0))
+
+-- Document 02's item 8. What such a load leaves of reasons that are 9 everywhere, at addresses 0, 7 and 8.
+abbrev nines : List ℕ
+nines = replicate reasonsSize 9
+
+abbrev reasonBytes : Reason → List ℕ
+reasonBytes why =
+    let m = getD (reasonedBlock nines 2 1 why 0 .buffers) 2 [] in
+    bytesAt 0 1 m ++ bytesAt 7 2 m
+
+-- the answer of a question where two addresses have the reasons 5 and 6
+abbrev asking : Tile → ℕ → ℕ → ℕ → ℕ
+asking t mode five six = rejection t mode (set (set freshReasons five 5) six 6)
+
+-- I8, two rows of a word: the halves of the second change places
+abbrev twoRows : Tile
+twoRows = tile 4 1 1 0 8 2
+
+-- CI4 of palette 3
+abbrev thirdPalette : Tile
+thirdPalette = tileFrom 2 0 3 0 0 0 0 1 0 1 1
+
+-- a list's length, its first and its last number
+abbrev endsOf : List ℕ → List ℕ
+endsOf l = length l ∷ getD l 0 0 ∷ getD l (length l - 1) 0 ∷ []
 
 unfoldable pub table : List Case
 table =
@@ -221,7 +251,7 @@ table =
     -- its one load has the number 1
     ∷ (replayed (inFile companion) (recordsIn replayInput) start .last ∷ [] gives 1 ∷ [])
     -- after 65,535 loads it is refused, "18 0", and the keys go on
-    ∷ (concat (lines (inFile companion) (recordsIn replayInput) (carried fresh freshWritten 65535))
+    ∷ (concat (lines (inFile companion) (recordsIn replayInput) (carried fresh freshWritten freshReasons 65535))
     gives 10 ∷ 0 ∷ 0 ∷ 4 ∷ 4 ∷ 0 ∷ 11 ∷ 0 ∷ 18 ∷ 0 ∷ 0 ∷ 4 ∷ 8 ∷ 0 ∷ [])
     -- a torn tail alone prints "8 0"
     ∷ (replayText companion (0 ∷ []) gives 56 ∷ 32 ∷ 48 ∷ 10 ∷ [])
@@ -250,6 +280,27 @@ table =
     ∷ (map loadedBy ((0 ∷ 0 ∷ 0 ∷ 0 ∷ []) ∷ (0 ∷ 1 ∷ 0 ∷ 0 ∷ []) ∷ (1 ∷ 0 ∷ 0 ∷ 0 ∷ []) ∷ (0 ∷ 0 ∷ 1 ∷ 1 ∷ []) ∷ [])
     gives 0 ∷ 1 ∷ 1 ∷ 0 ∷ [])
     ∷ (numberAt (1 ∷ 2 ∷ 3 ∷ 4 ∷ []) 1 ∷ [] gives 772 ∷ [])
+    -- a rejected load "also leaves its reason at each address; an ordinary load clears it"
+    ∷ (concat (map reasonBytes (ordinary ∷ rejected 1 ∷ rejected 255 ∷ [])) gives 0 ∷ 0 ∷ 9 ∷ 1 ∷ 1 ∷ 9 ∷ 255 ∷ 255 ∷ 9 ∷ [])
+    -- it stores, counts and takes a number as any load does; "reason 0 or above 255" is refused, and leaves the reasons
+    ∷ (answers (reasonedBlock nines 2 1 (rejected 255) 0) gives 0 ∷ 8 ∷ 6 ∷ 1 ∷ [])
+    ∷ (concat (map reasonBytes (rejected 0 ∷ rejected 256 ∷ [])) gives 9 ∷ 9 ∷ 9 ∷ 9 ∷ 9 ∷ 9 ∷ [])
+    -- 19 is "tested after 4 .. and before 18"
+    ∷ (answers (reasonedBlock nines 4 1 (rejected 0) 65535) gives 4 ∷ 0 ∷ 0 ∷ 65535 ∷ [])
+    ∷ (answers (reasonedBlock nines 2 1 (rejected 0) 65535) gives 19 ∷ 0 ∷ 0 ∷ 65535 ∷ [])
+    ∷ (answers (reasonedBlock nines 2 1 (rejected 256) 0) gives 19 ∷ 0 ∷ 0 ∷ 0 ∷ [])
+    ∷ (answers (reasonedBlock nines 2 1 (rejected 255) 65535) gives 18 ∷ 0 ∷ 0 ∷ 65535 ∷ [])
+    -- reasons of another length are refused
+    ∷ (answers (reasonedBlock (0 ∷ nines) 4 1 (rejected 0) 0) gives 1 ∷ 0 ∷ 0 ∷ 0 ∷ [])
+    -- the first in reach order: 12 comes before 8, in mode 0 of (0,3) 2,048 before 1; other addresses are not asked
+    ∷ (asking twoRows 0 8 12 ∷ asking twoRows 0 8 7 ∷ asking twoRows 0 16 2048 ∷ [] gives 6 ∷ 6 ∷ 0 ∷ [])
+    ∷ (asking (tile 0 3 0 0 1 1) 0 1 2048 ∷ asking (tile 0 3 0 0 1 1) 0 2049 3 ∷ [] gives 6 ∷ 5 ∷ [])
+    -- reach before palette, which modes 2 and 3 alone ask
+    ∷ (map (λ mode. asking ci8One mode 2048 0) (1 ∷ 2 ∷ 3 ∷ []) gives 6 ∷ 6 ∷ 6 ∷ [])
+    ∷ (map (λ mode. asking ci8One mode 2049 2050) (0 ∷ 1 ∷ 2 ∷ 3 ∷ []) gives 0 ∷ 0 ∷ 5 ∷ 5 ∷ [])
+    -- "the 128 bytes of the tile's palette for siz 0, else the upper half"
+    ∷ (asking thirdPalette 2 2560 2431 ∷ asking thirdPalette 2 2559 2432 ∷ asking thirdPalette 2 2559 2560 ∷ [] gives 0 ∷ 6 ∷ 5 ∷ [])
+    ∷ (endsOf (paletteOrder ci8One 3) gives 2048 ∷ 2048 ∷ 4095 ∷ [])
     ∷ []
 
 -- the two lists of every case are the same
