@@ -11,37 +11,37 @@ use lib.Seq.{getD-set-same, getD-set-other}
 use borrow.Author.Tests.{eq-eqb, ne-eqb, eqb-true}
 use Rattle.rules.specs.Base.{mem}
 use Rattle.rules.specs.Tile.{Tile}
-use Rattle.rules.specs.Load.{Store, addresses, Reason, reasonLeft, reasoned}
+use Rattle.rules.specs.Load.{Store, addresses, reasoned}
 use Rattle.rules.specs.Reach.{reach, paletteOrder, orElse, firstReason, rejection}
 
 -- stores leave their reason list after list, and keep the length
-pub reasoned-append : (why : Reason) (l k : List Store) (m : List ℕ) → reasoned why (l ++ k) m ≡ reasoned why k (reasoned why l m)
+pub reasoned-append : (n : ℕ) (l k : List Store) (m : List ℕ) → reasoned n (l ++ k) m ≡ reasoned n k (reasoned n l m)
 unfolding reasoned
-reasoned-append why [] k m = refl
-reasoned-append why (s ∷ l) k m = reasoned-append why l k _
+reasoned-append n [] k m = refl
+reasoned-append n (s ∷ l) k m = reasoned-append n l k _
 
-pub length-reasoned : (why : Reason) (l : List Store) (m : List ℕ) → length (reasoned why l m) ≡ length m
+pub length-reasoned : (n : ℕ) (l : List Store) (m : List ℕ) → length (reasoned n l m) ≡ length m
 unfolding reasoned
-length-reasoned why [] m = refl
-length-reasoned why (s ∷ l) m = length-reasoned why l _ ∙ length-set m (s .at) _
+length-reasoned n [] m = refl
+length-reasoned n (s ∷ l) m = length-reasoned n l _ ∙ length-set m (s .at) _
 
 -- The reason at an address after a load is the load's where it stored, 0 for an ordinary one, else the old one.
-pub reason-at : (why : Reason) (l : List Store) (m : List ℕ) (a : ℕ) → a < length m
-    → getD (reasoned why l m) a 0 ≡ cond (mem a (addresses l)) (reasonLeft why) (getD m a 0)
+pub reason-at : (n : ℕ) (l : List Store) (m : List ℕ) (a : ℕ) → a < length m
+    → getD (reasoned n l m) a 0 ≡ cond (mem a (addresses l)) n (getD m a 0)
 unfolding reasoned mem
-reason-at why [] m a h = refl
-reason-at why (s ∷ l) m a h =
-    reason-at why l _ a (rw length-set h) ∙ go (ℕ-discrete a (s .at)) (mem a (addresses l))
+reason-at n [] m a h = refl
+reason-at n (s ∷ l) m a h =
+    reason-at n l _ a (rw length-set h) ∙ go (ℕ-discrete a (s .at)) (mem a (addresses l))
   where
     go : Dec (a ≡ s .at) → (c : Bool)
-        → cond c (reasonLeft why) (getD (set m (s .at) (reasonLeft why)) a 0)
-        ≡ cond (eqb a (s .at) || c) (reasonLeft why) (getD m a 0)
+        → cond c n (getD (set m (s .at) n) a 0)
+        ≡ cond (eqb a (s .at) || c) n (getD m a 0)
     go (yes e) true = rw (eq-eqb a (s .at) e)
     go (yes e) false =
         let k : s .at < length m = omega arith in
-        rw (eq-eqb a (s .at) e, e) (getD-set-same m (s .at) (reasonLeft why) 0 k)
+        rw (eq-eqb a (s .at) e, e) (getD-set-same m (s .at) n 0 k)
     go (no e) true = rw (ne-eqb a (s .at) e)
-    go (no e) false = rw (ne-eqb a (s .at) e) (getD-set-other m (s .at) a (reasonLeft why) 0 e)
+    go (no e) false = rw (ne-eqb a (s .at) e) (getD-set-other m (s .at) a n 0 e)
 
 -- the first of two reasons is none where neither is one
 pub or-none : (a b : ℕ) → orElse a b ≡ 0 → (a ≡ 0) × (b ≡ 0)

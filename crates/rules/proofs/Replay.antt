@@ -10,7 +10,7 @@ use lib.ListN.{length, getD, set, replicate, take, drop, length-take, List·getD
 use lib.Seq.{getD-take, getD-drop, getD-set-same, getD-set-other, set-out}
 use borrow.Author.Tests.{eq-eqb, eqb-true, not-false, not-true}
 use Rattle.rules.specs.Tile.{bankSize, writtenSize, reasonsSize}
-use Rattle.rules.specs.Load.{Store, stored, written, following, ordinary, reasoned}
+use Rattle.rules.specs.Load.{Store, stored, written, following, ordinary, reasonLeft, reasoned}
 use Rattle.rules.specs.Key.{keptCount, Bytes}
 use Rattle.rules.specs.Refusal.{Test, Outcome, first, settle, callOr}
 use Rattle.rules.specs.Calls.{leftBy}
@@ -47,7 +47,7 @@ texts-append (x ∷ l) k = ap (λ t. lineText x ++ t) (texts-append l k) ∙ sym
 abbrev pub afterLoad : List ℕ → List ℕ → Carried → Carried
 afterLoad src r m =
     carried (stored src (storesIn r) (m .bank)) (written (following (m .last)) (storesIn r) (m .map))
-    (reasoned ordinary (storesIn r) (m .reasons)) (following (m .last))
+    (reasoned (reasonLeft ordinary) (storesIn r) (m .reasons)) (following (m .last))
 
 -- What a record leaves, by its refusal.
 module _ (end : ℕ) (src r : List ℕ) (m : Carried) where
@@ -194,7 +194,7 @@ outcome-sound end src r m s h = go (ℕ-discrete (outcome end src r m .refusal) 
         (record {
           bank-size = length-stored src (storesIn r) (m .bank) ∙ h .bank-size;
           map-size = length-written (following (m .last)) (storesIn r) (m .map) ∙ h .map-size;
-          reasons-size = length-reasoned ordinary (storesIn r) (m .reasons) ∙ h .reasons-size;
+          reasons-size = length-reasoned (reasonLeft ordinary) (storesIn r) (m .reasons) ∙ h .reasons-size;
           bytes = stored-bytes src (storesIn r) (m .bank) s (h .bytes);
           last-in = omega (arith, number-left end r (m .last) k (sym (refusal-of end src r m) ∙ e));
         })

@@ -8,23 +8,23 @@ use native.Mathlib.Omega.{arith}
 use lib.ListN.{length, getD, List·getD-eq-default}
 use Rattle.rules.specs.Base.{mem}
 use Rattle.rules.specs.Tile.{reasonsSize}
-use Rattle.rules.specs.Load.{Store, addresses, ordinary, reasoned}
+use Rattle.rules.specs.Load.{Store, addresses, ordinary, reasonLeft, reasoned}
 use Rattle.rules.specs.Replay.{storesIn, Carried, fresh, inFile, onward, replayed}
 use Rattle.rules.proofs.Maps.{zeros-at}
 use Rattle.rules.proofs.Reasons.{reason-at, length-reasoned}
 use Rattle.rules.proofs.Replay.{loads, not-done-keeps, done-leaves}
 
 -- an address without a reason has none after an ordinary load
-stays-clear : (l : List Store) (m : List ℕ) (a : ℕ) → getD m a 0 ≡ 0 → getD (reasoned ordinary l m) a 0 ≡ 0
+stays-clear : (l : List Store) (m : List ℕ) (a : ℕ) → getD m a 0 ≡ 0 → getD (reasoned (reasonLeft ordinary) l m) a 0 ≡ 0
 stays-clear l m a e = go (decLt a (length m))
   where
     none : (b : Bool) → cond b 0 (getD m a 0) ≡ 0
     none true = refl
     none false = e
 
-    go : Dec (a < length m) → getD (reasoned ordinary l m) a 0 ≡ 0
-    go (yes h) = reason-at ordinary l m a h ∙ none (mem a (addresses l))
-    go (no h) = List·getD-eq-default (reasoned ordinary l m) 0 {n = a} (rw length-reasoned (omega (arith, h)))
+    go : Dec (a < length m) → getD (reasoned (reasonLeft ordinary) l m) a 0 ≡ 0
+    go (yes h) = reason-at (reasonLeft ordinary) l m a h ∙ none (mem a (addresses l))
+    go (no h) = List·getD-eq-default (reasoned (reasonLeft ordinary) l m) 0 {n = a} (rw length-reasoned (omega (arith, h)))
 
 module _ (file : List ℕ) (a : ℕ) where
   -- nor after the records of a replay

@@ -8,7 +8,7 @@ use lib.Dec.{ltb}
 use lib.ListN.{length}
 use borrow.Author.Tests.{ltb-false, le-ltb}
 use Rattle.rules.specs.Tile.{Tile, loadFieldsOutside}
-use Rattle.rules.specs.Load.{stored, written, following, ordinary, reasoned}
+use Rattle.rules.specs.Load.{stored, written, following, ordinary, reasonLeft, reasoned}
 use Rattle.rules.specs.Key.{keptCount}
 use Rattle.rules.specs.Refusal.{Test, _if_, first, settle, callOr}
 use Rattle.rules.specs.Calls.{sourceOutside, numberTests, pairTests, unknownPair}
@@ -92,7 +92,7 @@ module _ (end : ℕ) (r : List ℕ) where
     pub load-done : (bank′ map′ reasons′ : List ℕ) (count : ℕ) → asksKey r ≡ false → count ≡ length (storesIn r)
         → bank′ ≡ stored src (storesIn r) (m .bank)
         → map′ ≡ written (following (m .last)) (storesIn r) (m .map)
-        → reasons′ ≡ reasoned ordinary (storesIn r) (m .reasons)
+        → reasons′ ≡ reasoned (reasonLeft ordinary) (storesIn r) (m .reasons)
         → record { refusal = 0; numbers = count ∷ following (m .last) ∷ []; buffers = bank′ ∷ map′ ∷ reasons′ ∷ [] } ≡ outcome end src r m
     unfolding outcome tested callOr settle countOf left
     load-done bank′ map′ reasons′ count k e f g h = rw (passed, k, e, f, g, h)

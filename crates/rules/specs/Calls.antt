@@ -11,7 +11,7 @@ use Rattle.rules.specs.Tile.{loadFieldsOutside, tileOutside, modeOutside
 use Rattle.rules.specs.Texdec.{accepted, stepKnows}
 use Rattle.rules.specs.Sampling.{flag, extentWidth, extentHeight, lookupTexels}
 use Rattle.rules.specs.Load.{Store, loadTile, blockStores, tileStores, tlutStores, stored, written, following, madeUp}
-use Rattle.rules.specs.Load.{Reason, reasonOutside, reasoned}
+use Rattle.rules.specs.Load.{Reason, reasonOutside, reasonLeft, reasoned}
 use Rattle.rules.specs.Reading.{Reading, given, trail, encoded}
 use Rattle.rules.specs.Picture.{plain, lookup}
 use Rattle.rules.specs.Reach.{reachMap, hasLoad, rejection, laneMap}
@@ -82,7 +82,7 @@ loadTests bank map reasons src t image outside why last =
 
 -- what a load of that number leaves in the three buffers: "A rejected load stores and marks as any load does and also leaves its reason"
 abbrev pub leftBy : List ℕ → List Store → ℕ → Reason → List ℕ → List ℕ → List ℕ → List (List ℕ)
-leftBy src l number why bank map reasons = stored src l bank ∷ written number l map ∷ reasoned why l reasons ∷ []
+leftBy src l number why bank map reasons = stored src l bank ∷ written number l map ∷ reasoned (reasonLeft why) l reasons ∷ []
 
 -- The count of stores is answered, how many of their bytes were made up, and the load's number. "A load that stores nothing still takes a
 -- number; a refused one takes none and hands back the number passed." `last` is "the last number given".

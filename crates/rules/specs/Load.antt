@@ -189,9 +189,9 @@ reasonLeft ordinary = 0
 reasonLeft (rejected n) = n
 
 -- "leaves its reason at each address": the reasons after the stores, one after the other
-unfoldable pub reasoned : Reason → List Store → List ℕ → List ℕ
-reasoned why [] reasons = reasons
-reasoned why (s ∷ l) reasons = reasoned why l (set reasons (s .at) (reasonLeft why))
+unfoldable pub reasoned : ℕ → List Store → List ℕ → List ℕ
+reasoned n [] reasons = reasons
+reasoned n (s ∷ l) reasons = reasoned n l (set reasons (s .at) n)
 
 -- "the number of stores in the rule's list whose source place is at or past the length. A replicated byte counts each time it is
 -- stored."
