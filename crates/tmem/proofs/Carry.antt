@@ -8,40 +8,44 @@ use native.Mathlib.Omega.{arith}
 use lib.ListN.{length, getD, set, length-append}
 use lib.Seq.{set-comm}
 use Rattle.rules.specs.Base.{tab, tabFrom, concat, howMany, stamped, stamps}
-use Rattle.rules.specs.Load.{Store, stored, written, madeUp}
+use Rattle.rules.specs.Load.{Store, stored, written, reasoned, madeUp}
 use Rattle.rules.proofs.Tables.{concat-more}
 use Rattle.rules.proofs.Loads.{stored-append, written-append, length-stored, length-written}
+use Rattle.rules.proofs.Reasons.{reasoned-append, length-reasoned}
 use Rattle.rules.proofs.MadeUp.{made-up-within, made-up-append}
+use Rattle.tmem.specs.declared.label.Label.{Label}
 use Rattle.tmem.specs.declared.tally.Tally.{Tally}
 use Rattle.tmem.specs.Part.{Memory, Lent, CarriedOut, Counted, tallyOf, noTally, plusTally}
 
-module _ {src : List ℕ} {number : ℕ} {m : Memory} where
-  none : CarriedOut src [] number m m
-  unfolding stored written stamps
-  none = record { bank-is = refl; map-is = refl }
+module _ {src : List ℕ} {label : Label} {m : Memory} where
+  none : CarriedOut src [] label m m
+  unfolding stored written stamps reasoned
+  none = record { bank-is = refl; map-is = refl; reasons-is = refl }
 
   pub after : {l k : List Store} {m′ m″ : Memory}
-      → CarriedOut src l number m m′
-      → CarriedOut src k number m′ m″
-      → CarriedOut src (l ++ k) number m m″
+      → CarriedOut src l label m m′
+      → CarriedOut src k label m′ m″
+      → CarriedOut src (l ++ k) label m m″
   after {l} {k} p q =
       record {
         bank-is = rw (q .bank-is, p .bank-is) (sym (stored-append src l k (m .bank)));
-        map-is = rw (q .map-is, p .map-is) (sym (written-append number l k (m .map)));
+        map-is = rw (q .map-is, p .map-is) (sym (written-append (label .number) l k (m .map)));
+        reasons-is = rw (q .reasons-is, p .reasons-is) (sym (reasoned-append (label .reason) l k (m .reasons)));
       }
 
   -- the lists of a table, and one more
   one-more : (f : ℕ → List Store) (n : ℕ) {m′ m″ : Memory}
-      → CarriedOut src (concat (tab n f)) number m m′
-      → CarriedOut src (f n) number m′ m″
-      → CarriedOut src (concat (tab (n + 1) f)) number m m″
+      → CarriedOut src (concat (tab n f)) label m m′
+      → CarriedOut src (f n) label m′ m″
+      → CarriedOut src (concat (tab (n + 1) f)) label m m″
   one-more f n p q = rw concat-more (after p q)
 
-  still-lent : {l : List Store} {m′ : Memory} → Lent m number → CarriedOut src l number m m′ → Lent m′ number
+  still-lent : {l : List Store} {m′ : Memory} → Lent m label → CarriedOut src l label m m′ → Lent m′ label
   still-lent {l} w p =
       record {
         whole-bank = rw (p .bank-is, length-stored) (w .whole-bank);
         whole-map = rw (p .map-is, length-written) (w .whole-map);
+        whole-reasons = rw (p .reasons-is, length-reasoned) (w .whole-reasons);
         number-in = w .number-in;
       }
 
@@ -56,47 +60,56 @@ stamped-swap n m a b h =
     ∙ ap (λ l. set (set l (2 * b + 1) y) (2 * a + 1) y) (set-comm m (2 * a) (2 * b) x x (λ e. h (omega arith)))
     ∙ ap (λ l. set l (2 * a + 1) y) (set-comm (set m (2 * b) x) (2 * a) (2 * b + 1) x y (λ e. omega arith))
 
-pub exchanged : {src : List ℕ} {number : ℕ} {m m′ : Memory} (s t u v : Store) → (t .at ≡ u .at → ⊥)
-    → CarriedOut src (s ∷ t ∷ u ∷ v ∷ []) number m m′
-    → CarriedOut src (s ∷ u ∷ t ∷ v ∷ []) number m m′
-unfolding stored written stamps
-exchanged {src} {number} {m} s t u v h p =
+pub exchanged : {src : List ℕ} {label : Label} {m m′ : Memory} (s t u v : Store) → (t .at ≡ u .at → ⊥)
+    → CarriedOut src (s ∷ t ∷ u ∷ v ∷ []) label m m′
+    → CarriedOut src (s ∷ u ∷ t ∷ v ∷ []) label m m′
+unfolding stored written stamps reasoned
+exchanged {src} {label} {m} s t u v h p =
     record {
       bank-is =
           p .bank-is
           ∙ ap (λ b. set b (v .at) (byte v))
           (set-comm (set (m .bank) (s .at) (byte s)) (t .at) (u .at) (byte t) (byte u) h);
-      map-is = p .map-is ∙ ap (λ l. stamped number l (v .at)) (stamped-swap number (stamped number (m .map) (s .at)) (t .at) (u .at) h);
+      map-is =
+          p .map-is ∙ ap (λ l. stamped n l (v .at)) (stamped-swap n (stamped n (m .map) (s .at)) (t .at) (u .at) h);
+      reasons-is =
+          p .reasons-is ∙ ap (λ l. set l (v .at) why) (set-comm (set (m .reasons) (s .at) why) (t .at) (u .at) why why h);
     }
   where
     byte : Store → ℕ
     byte x = getD src (x .from) 0
 
--- A loop that carries out the lists of a table, f 0 to f (n - 1), before turn i.
-pub record Turn (n : ℕ) (f : ℕ → List Store) (src : List ℕ) (number : ℕ) (m : Memory) (i : ℕ) (m′ : Memory) : Type 0 where
-  pub turns : i ≤ n
-  pub so-far : CarriedOut src (concat (tab i f)) number m m′
-  pub lent : Lent m′ number
+    n : ℕ
+    n = label .number
 
-module _ {n : ℕ} {f : ℕ → List Store} {src : List ℕ} {number : ℕ} {m : Memory} where
-  pub begin : Lent m number → Turn n f src number m 0 m
+    why : ℕ
+    why = label .reason
+
+-- A loop that carries out the lists of a table, f 0 to f (n - 1), before turn i.
+pub record Turn (n : ℕ) (f : ℕ → List Store) (src : List ℕ) (label : Label) (m : Memory) (i : ℕ) (m′ : Memory) : Type 0 where
+  pub turns : i ≤ n
+  pub so-far : CarriedOut src (concat (tab i f)) label m m′
+  pub lent : Lent m′ label
+
+module _ {n : ℕ} {f : ℕ → List Store} {src : List ℕ} {label : Label} {m : Memory} where
+  pub begin : Lent m label → Turn n f src label m 0 m
   unfolding tab tabFrom concat
   begin w = record { turns = omega arith; so-far = none; lent = w }
 
   pub next : {i : ℕ} {m′ m″ : Memory}
-      → Turn n f src number m i m′
+      → Turn n f src label m i m′
       → i < n
-      → CarriedOut src (f i) number m′ m″
-      → Turn n f src number m (i + 1) m″
+      → CarriedOut src (f i) label m′ m″
+      → Turn n f src label m (i + 1) m″
   next {i} t h q = record { turns = omega arith; so-far = one-more f i (t .so-far) q; lent = still-lent (t .lent) q }
 
-  pub finish : {i : ℕ} {m′ : Memory} → Turn n f src number m i m′ → n ≤ i → CarriedOut src (concat (tab n f)) number m m′
+  pub finish : {i : ℕ} {m′ : Memory} → Turn n f src label m i m′ → n ≤ i → CarriedOut src (concat (tab n f)) label m m′
   finish {i} t h = let e : i ≡ n = omega arith in rw e at (t .so-far)
 
 -- The same loop where it counts its stores.
-pub record Counting (n : ℕ) (f : ℕ → List Store) (src : List ℕ) (number : ℕ) (m : Memory) (i : ℕ) (m′ : Memory) (tally : Tally)
+pub record Counting (n : ℕ) (f : ℕ → List Store) (src : List ℕ) (label : Label) (m : Memory) (i : ℕ) (m′ : Memory) (tally : Tally)
     : Type 0 where
-  pub turn : Turn n f src number m i m′
+  pub turn : Turn n f src label m i m′
   pub counted : tally ≡ tallyOf (length src) (concat (tab i f))
 
 -- lists one after the other have their tallies' sum
@@ -113,26 +126,26 @@ table-length f g e (suc n) =
     ∙ length-append (concat (tab n f)) (f n)
     ∙ rw (table-length f g e n, e n) (sym (suc-mul n g))
 
-module _ {n : ℕ} {f : ℕ → List Store} {src : List ℕ} {number : ℕ} {m : Memory} where
-  pub begin-count : {tally : Tally} → Lent m number → tally ≡ noTally → Counting n f src number m 0 m tally
+module _ {n : ℕ} {f : ℕ → List Store} {src : List ℕ} {label : Label} {m : Memory} where
+  pub begin-count : {tally : Tally} → Lent m label → tally ≡ noTally → Counting n f src label m 0 m tally
   unfolding tab tabFrom concat madeUp howMany
   begin-count w e = record { turn = begin w; counted = e }
 
   pub finish-count : {i : ℕ} {tally : Tally} {m′ : Memory}
-      → Counting n f src number m i m′ tally
+      → Counting n f src label m i m′ tally
       → n ≤ i
-      → Counted src (concat (tab n f)) number m m′ tally
+      → Counted src (concat (tab n f)) label m m′ tally
   finish-count {i} t h =
       let e : i ≡ n = omega (arith, t .turn .turns) in
       record { carried = finish (t .turn) h; tally-is = rw e at (t .counted) }
 
   -- the next list
-  module _ {i : ℕ} {tally more : Tally} {m′ m″ : Memory} (t : Counting n f src number m i m′ tally) (h : i < n)
-      (q : Counted src (f i) number m′ m″ more) where
+  module _ {i : ℕ} {tally more : Tally} {m′ m″ : Memory} (t : Counting n f src label m i m′ tally) (h : i < n)
+      (q : Counted src (f i) label m′ m″ more) where
     joined : plusTally tally more ≡ tallyOf (length src) (concat (tab (i + 1) f))
     joined = rw (concat-more i f, t .counted, q .tally-is) (tally-append (length src) (concat (tab i f)) (f i))
 
-    pub next-count : {both : Tally} → both ≡ plusTally tally more → Counting n f src number m (i + 1) m″ both
+    pub next-count : {both : Tally} → both ≡ plusTally tally more → Counting n f src label m (i + 1) m″ both
     next-count e = record { turn = next (t .turn) h (q .carried); counted = e ∙ joined }
 
     -- what is counted stays below a bound of the lists times one of their lengths, and what is made up is no more

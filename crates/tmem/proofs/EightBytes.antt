@@ -8,9 +8,10 @@ use native.Mathlib.Omega.{arith}
 use lib.Dec.{eqb}
 use lib.ListN.{getD, set}
 use Rattle.rules.specs.Base.{tab, tabFrom, concat, stamps}
-use Rattle.rules.specs.Load.{store, LoadTile, splitStores, wholeStores, stored, written}
+use Rattle.rules.specs.Load.{store, LoadTile, splitStores, wholeStores, stored, written, reasoned}
 use Rattle.rules.proofs.Tables.{getD-tab}
 use Rattle.rules.proofs.Loads.{splitBy}
+use Rattle.tmem.specs.declared.label.Label.{Label}
 use Rattle.tmem.specs.Part.{Memory, placeOf, halfStores, byteIn, bytesIn, sourceBytes, CarriedOut}
 
 -- the number of eight bytes, and its bytes
@@ -59,23 +60,23 @@ pair-from src at a b p q =
     λ i. f i ∷ q i ∷ f i ∷ q i ∷ f i ∷ q i ∷ f i ∷ q i ∷ []
 
 -- two bytes of a word are stored
-pub pair-stored : (word at k j first second : ℕ) {number : ℕ} {m m′ : Memory} → k < 8 → j < 8 → first ≡ byteIn word k
+pub pair-stored : (word at k j first second : ℕ) {label : Label} {m m′ : Memory} → k < 8 → j < 8 → first ≡ byteIn word k
     → second ≡ byteIn word j
-    → CarriedOut (first ∷ second ∷ []) (halfStores at 0 1) number m m′
-    → CarriedOut (bytesIn word) (halfStores at k j) number m m′
-unfolding stored written stamps
-pair-stored word at k j first second {number} {m} hk hj p q c =
+    → CarriedOut (first ∷ second ∷ []) (halfStores at 0 1) label m m′
+    → CarriedOut (bytesIn word) (halfStores at k j) label m m′
+unfolding stored written stamps reasoned
+pair-stored word at k j first second {label} {m} hk hj p q c =
     let f : first ≡ getD (bytesIn word) k 0 = p ∙ sym (getD-tab 8 (byteIn word) k 0 hk) in
     let s : second ≡ getD (bytesIn word) j 0 = q ∙ sym (getD-tab 8 (byteIn word) j 0 hj) in
-    record { bank-is = c .bank-is ∙ (λ i. set (set (m .bank) at (f i)) (at + 1) (s i)); map-is = c .map-is }
+    record { bank-is = c .bank-is ∙ (λ i. set (set (m .bank) at (f i)) (at + 1) (s i)); map-is = c .map-is; reasons-is = c .reasons-is }
 
 -- Stores of a word's own bytes, once these are taken from the source, are the rule's stores.
-module _ (src : List ℕ) (from : ℕ → ℕ) {number : ℕ} {m m′ : Memory} where
+module _ (src : List ℕ) (from : ℕ → ℕ) {label : Label} {m m′ : Memory} where
   pub split-taken : (t : LoadTile) (l : List ℕ) (start : ℕ)
-      → CarriedOut (sourceBytes src from) (splitStores t l start (λ k. k)) number m m′
-      → CarriedOut src (splitStores t l start from) number m m′
-  unfolding splitStores concat tab tabFrom stored written stamps
-  split-taken t l start p = record { bank-is = p .bank-is ∙ go (eqb (t .fmt) 1); map-is = p .map-is }
+      → CarriedOut (sourceBytes src from) (splitStores t l start (λ k. k)) label m m′
+      → CarriedOut src (splitStores t l start from) label m m′
+  unfolding splitStores concat tab tabFrom stored written stamps reasoned
+  split-taken t l start p = record { bank-is = p .bank-is ∙ go (eqb (t .fmt) 1); map-is = p .map-is; reasons-is = p .reasons-is }
     where
       go : (yuv : Bool)
           → stored (sourceBytes src from) (splitBy yuv l start (λ k. k)) (m .bank) ≡ stored src (splitBy yuv l start from) (m .bank)
@@ -83,15 +84,15 @@ module _ (src : List ℕ) (from : ℕ → ℕ) {number : ℕ} {m m′ : Memory} 
       go false = refl
 
   pub whole-taken : (l : List ℕ) (high o : ℕ) → o < 2
-      → CarriedOut (sourceBytes src from) (wholeStores l high (o * 2) (λ k. k)) number m m′
-      → CarriedOut src (wholeStores l high (o * 2) from) number m m′
-  unfolding wholeStores concat tab tabFrom stored written stamps
-  whole-taken l high zero h p = record { bank-is = p .bank-is; map-is = p .map-is }
-  whole-taken l high (suc zero) h p = record { bank-is = p .bank-is; map-is = p .map-is }
+      → CarriedOut (sourceBytes src from) (wholeStores l high (o * 2) (λ k. k)) label m m′
+      → CarriedOut src (wholeStores l high (o * 2) from) label m m′
+  unfolding wholeStores concat tab tabFrom stored written stamps reasoned
+  whole-taken l high zero h p = record { bank-is = p .bank-is; map-is = p .map-is; reasons-is = p .reasons-is }
+  whole-taken l high (suc zero) h p = record { bank-is = p .bank-is; map-is = p .map-is; reasons-is = p .reasons-is }
   whole-taken l high (suc (suc o)) h p = absurd (omega arith)
 
   pub entry-taken : (at : ℕ)
-      → CarriedOut (sourceBytes src from) (tab 8 (λ k. store (at + k) k)) number m m′
-      → CarriedOut src (tab 8 (λ k. store (at + k) (from k))) number m m′
-  unfolding tab tabFrom stored written stamps
-  entry-taken at p = record { bank-is = p .bank-is; map-is = p .map-is }
+      → CarriedOut (sourceBytes src from) (tab 8 (λ k. store (at + k) k)) label m m′
+      → CarriedOut src (tab 8 (λ k. store (at + k) (from k))) label m m′
+  unfolding tab tabFrom stored written stamps reasoned
+  entry-taken at p = record { bank-is = p .bank-is; map-is = p .map-is; reasons-is = p .reasons-is }

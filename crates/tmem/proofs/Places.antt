@@ -12,6 +12,7 @@ use Rattle.rules.specs.Base.{tab, tabFrom, concat}
 use Rattle.rules.specs.Load.{Store, store, LoadTile, halfword, base, firstSpot, oddSpot, list4, splits, upper}
 use Rattle.rules.specs.Load.{splitStores, wholeStores, wordStores}
 use Rattle.rules.proofs.Loads.{splitBy, either-shape}
+use Rattle.tmem.specs.declared.label.Label.{Label}
 use Rattle.tmem.specs.Part.{Memory, Spots, halfStores, splitStep, splitFour, CarriedOut}
 use Rattle.tmem.proofs.Carry.{exchanged}
 use Rattle.tmem.proofs.Indices.{start-below}
@@ -26,11 +27,11 @@ splitTurn step l start j =
     ∷ []
 
 -- made a halfword at a time they come to the same, as the halves are far apart
-pub split-turn : {src : List ℕ} {number : ℕ} {m m′ : Memory} (a step : ℕ) (l : List ℕ) (start j : ℕ)
+pub split-turn : {src : List ℕ} {label : Label} {m m′ : Memory} (a step : ℕ) (l : List ℕ) (start j : ℕ)
     → a ≡ getD l (start + j) 0
     → a % 2 ≡ 0
-    → CarriedOut src (splitFour step a (4 * j)) number m m′
-    → CarriedOut src (splitTurn step l start j) number m m′
+    → CarriedOut src (splitFour step a (4 * j)) label m m′
+    → CarriedOut src (splitTurn step l start j) label m m′
 split-turn a step l start j e h p =
     let up : a + 1 + 2048 ≡ a + 2048 + 1 = omega arith in
     rw (← e, up) (exchanged _ _ _ _ (omega arith) p)

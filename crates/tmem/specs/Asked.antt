@@ -4,7 +4,7 @@ use mathlib.Core.List.{List}
 use Prim.Native.Nat.{ℕ}
 use Rattle.rules.specs.Tile.{Tile}
 use Rattle.rules.specs.Refusal.{Outcome}
-use Rattle.rules.specs.Load.{Store, LoadTile, loadTile, blockStores, tileStores, tlutStores}
+use Rattle.rules.specs.Load.{Store, LoadTile, loadTile, blockStores, tileStores, tlutStores, Reason}
 use Rattle.rules.specs.Calls.{blockOutside, tileLoadOutside, tlutOutside, loadTests, loaded}
 use Rattle.tmem.specs.declared.asked.Asked.{Asked}
 use Rattle.tmem.specs.declared.asked.Asked.the-variants.{Block, Tile as TileLoad, Tlut}
@@ -22,6 +22,7 @@ askedStores t image (TileLoad rows words stride) = tileStores t image rows words
 askedStores t image (Tlut count rows stride) = tlutStores t image count rows stride
 
 -- the call
-abbrev pub askedCall : List ℕ → List ℕ → List ℕ → Tile → ℕ → Asked → ℕ → Outcome
-askedCall bank map src t image asked last =
-    loaded (loadTests bank map src t image (askedOutside asked) last) (askedStores (loadTile t) image asked) bank map src last
+abbrev pub askedCall : List ℕ → List ℕ → List ℕ → List ℕ → Tile → ℕ → Asked → Reason → ℕ → Outcome
+askedCall bank map reasons src t image asked why last =
+    loaded (loadTests bank map reasons src t image (askedOutside asked) why last) (askedStores (loadTile t) image asked)
+    bank map reasons src why last

@@ -2,4 +2,5 @@
 pub mod Marks
 pub mod Part
 pub mod Run
+pub mod Reasons
 pub mod Asked

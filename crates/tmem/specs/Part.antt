@@ -7,8 +7,9 @@ use Prim.Native.Nat.{ℕ, _+_, _-_, _*_, _/_, _%_, _^_, _<_, _≤_}
 use lib.Dec.{eqb}
 use lib.ListN.{length, getD}
 use Rattle.rules.specs.Base.{tab}
-use Rattle.rules.specs.Tile.{bankSize, writtenSize}
-use Rattle.rules.specs.Load.{Store, store, LoadTile, stored, written, madeUp, wordMadeUp}
+use Rattle.rules.specs.Tile.{bankSize, writtenSize, reasonsSize}
+use Rattle.rules.specs.Load.{Store, store, LoadTile, stored, written, reasoned, madeUp, wordMadeUp}
+use Rattle.tmem.specs.declared.label.Label.{Label}
 use Rattle.tmem.specs.declared.place.LoadTile.{LoadTile as Declared}
 use Rattle.tmem.specs.declared.source.SourceWord.{SourceWord}
 use Rattle.tmem.specs.declared.tally.Tally.{Tally}
@@ -21,15 +22,21 @@ loadOf t = record { fmt = t .fmt; siz = t .siz; line = t .line .0; tmem-addr = t
 pub record Memory : Type 0 where
   pub bank : List ℕ
   pub map : List ℕ
+  pub reasons : List ℕ
 
-abbrev pub memory : List ℕ → List ℕ → Memory
-memory bank map = record { bank = bank; map = map }
+abbrev pub memory : List ℕ → List ℕ → List ℕ → Memory
+memory bank map reasons = record { bank = bank; map = map; reasons = reasons }
 
--- bank and written map have their lengths, and a load's number has two bytes
-pub record Lent (m : Memory) (number : ℕ) : Type 0 where
+-- the number and the reason that a load leaves
+abbrev pub labelOf : ℕ → ℕ → Label
+labelOf number reason = record { number = number; reason = reason }
+
+-- the buffers have their lengths, and a load's number has two bytes
+pub record Lent (m : Memory) (label : Label) : Type 0 where
   pub whole-bank : length (m .bank) ≡ bankSize
   pub whole-map : length (m .map) ≡ writtenSize
-  pub number-in : number < 65536
+  pub whole-reasons : length (m .reasons) ≡ reasonsSize
+  pub number-in : label .number < 65536
 
 -- the source place of a word's byte k; "Each source offset is taken mod 2" where one pair fills all lanes
 abbrev pub placeOf : ℕ → Bool → ℕ → ℕ
@@ -73,10 +80,11 @@ pub record Spots (first odd : ℕ) : Type 0 where
   pub odd-in : odd ≤ 2
   pub odd-even : odd % 2 ≡ 0
 
--- the stores of a list are carried out on bank and written map, for a load of that number
-pub record CarriedOut (src : List ℕ) (l : List Store) (number : ℕ) (m m′ : Memory) : Type 0 where
+-- the stores of a list are carried out on the buffers, for a load with that label
+pub record CarriedOut (src : List ℕ) (l : List Store) (label : Label) (m m′ : Memory) : Type 0 where
   pub bank-is : m′ .bank ≡ stored src l (m .bank)
-  pub map-is : m′ .map ≡ written number l (m .map)
+  pub map-is : m′ .map ≡ written (label .number) l (m .map)
+  pub reasons-is : m′ .reasons ≡ reasoned (label .reason) l (m .reasons)
 
 -- what is counted of a list of stores from a source of `size` bytes
 abbrev pub tallyOf : ℕ → List Store → Tally
@@ -91,6 +99,6 @@ abbrev pub plusTally : Tally → Tally → Tally
 plusTally a b = record { count = a .count + b .count; «made_up» = a .«made_up» + b .«made_up» }
 
 -- the stores of a list are carried out, and their tally is answered
-pub record Counted (src : List ℕ) (l : List Store) (number : ℕ) (m m′ : Memory) (tally : Tally) : Type 0 where
-  pub carried : CarriedOut src l number m m′
+pub record Counted (src : List ℕ) (l : List Store) (label : Label) (m m′ : Memory) (tally : Tally) : Type 0 where
+  pub carried : CarriedOut src l label m m′
   pub tally-is : tally ≡ tallyOf (length src) l

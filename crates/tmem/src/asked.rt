@@ -4,6 +4,7 @@ ghost use mathlib.Core.Bool.{false};
 ghost use Prim.Native.Nat.{_≤_};
 ghost use Rattle.tmem.specs.Part.{loadOf, memory, Lent, Counted};
 ghost use Rattle.tmem.specs.Asked.{askedOutside, askedStores};
+use crate::label::Label;
 use crate::load_block::write_block_words;
 use crate::load_tile::write_tile_rows;
 use crate::load_tlut::write_tlut;
@@ -55,20 +56,32 @@ impl Asked {
         self,
         bank: &mut [u8],
         written: &mut [u8],
+        reasons: &mut [u8],
         src: &[u8],
         tile: LoadTile,
         image_siz: u32,
-        number: usize,
+        label: Label,
     ) -> Tally
-        requires { ⌜ Lent (memory (now bank) (now written)) number ⌝ }
+        requires { ⌜ Lent (memory (now bank) (now written) (now reasons)) label ⌝ }
         requires { ⌜ «image_siz» ≤ 3 ⌝ }
         requires { ⌜ askedOutside self ≡ false ⌝ }
-        ensures { λ r. ⌜ Counted (now (src .entry)) (askedStores (loadOf tile) «image_siz» self) number
-            (memory (now (bank .entry)) (now (written .entry))) (memory (now (bank .exit)) (now (written .exit))) r ⌝ }
+        ensures { λ r. ⌜ Counted (now (src .entry)) (askedStores (loadOf tile) «image_siz» self) label
+            (memory (now (bank .entry)) (now (written .entry)) (now (reasons .entry)))
+            (memory (now (bank .exit)) (now (written .exit)) (now (reasons .exit))) r ⌝ }
     {
         match self {
             Asked::Block { dxt, words } => {
-                write_block_words(bank, written, src, tile, image_siz, dxt, words, number)
+                write_block_words(
+                    bank,
+                    written,
+                    reasons,
+                    src,
+                    tile,
+                    image_siz,
+                    dxt,
+                    words,
+                    label,
+                )
             }
             Asked::Tile {
                 rows,
@@ -77,13 +90,14 @@ impl Asked {
             } => write_tile_rows(
                 bank,
                 written,
+                reasons,
                 src,
                 tile,
                 image_siz,
                 rows,
                 words,
                 stride,
-                number,
+                label,
             ),
             Asked::Tlut {
                 count,
@@ -92,13 +106,14 @@ impl Asked {
             } => write_tlut(
                 bank,
                 written,
+                reasons,
                 src,
                 tile,
                 image_siz,
                 count,
                 rows,
                 stride,
-                number,
+                label,
             ),
         }
     }

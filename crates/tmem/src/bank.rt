@@ -1,7 +1,7 @@
 // The bank by value, with its numbers as associated constants, its fresh value, and the places of its palette.
 ghost use mathlib.Core.Path.{_≡_};
 ghost use Rattle.rules.specs.Picture.{entryAt};
-ghost use Rattle.rules.specs.Tile.{bankSize, writtenSize, paletteBase, mask8, mask16, freshBank};
+ghost use Rattle.rules.specs.Tile.{bankSize, writtenSize, reasonsSize, paletteBase, mask8, mask16, freshBank};
 use rdp::units::ByteAddr;
 
 // Texture memory.
@@ -16,6 +16,9 @@ impl Bank {
     // The bytes of the written map: two for each byte of the bank.
     pub const WRITTEN_SIZE: usize = 8192;
 
+    // The bytes of the map of reasons: one for each byte of the bank.
+    pub const REASONS_SIZE: usize = Bank::SIZE;
+
     // The byte at which the palette starts.
     pub const PALETTE_BASE: usize = 0x800;
 
@@ -29,6 +32,7 @@ impl Bank {
     pub(crate) fn numbers()
         ensures { λ _. do ⌜ (← ⟦Bank::SIZE⟧ .entry) ≡ bankSize ⌝ }
         ensures { λ _. do ⌜ (← ⟦Bank::WRITTEN_SIZE⟧ .entry) ≡ writtenSize ⌝ }
+        ensures { λ _. do ⌜ (← ⟦Bank::REASONS_SIZE⟧ .entry) ≡ reasonsSize ⌝ }
         ensures { λ _. do ⌜ (← ⟦Bank::PALETTE_BASE⟧ .entry) ≡ paletteBase ⌝ }
     {}
 

@@ -6,6 +6,7 @@ ghost use Rattle.rules.specs.Tile.{bankSize};
 ghost use Rattle.rules.specs.Load.{store, entryRow, rowStores};
 ghost use Rattle.tmem.specs.Part.{loadOf, memory, Lent, Counted};
 use crate::bank::Bank;
+use crate::label::Label;
 use crate::place::LoadTile;
 use crate::source::source_word;
 use crate::store::store_pair;
@@ -34,21 +35,32 @@ fn entry_addr(tile: LoadTile, row: usize, i: usize) -> ByteAddr
 fn write_tlut_entry(
     bank: &mut [u8],
     written: &mut [u8],
+    reasons: &mut [u8],
     src: &[u8],
     at: ByteAddr,
     source: usize,
-    number: usize,
+    label: Label,
 ) -> Tally
-    requires { ⌜ Lent (memory (now bank) (now written)) number ⌝ }
+    requires { ⌜ Lent (memory (now bank) (now written) (now reasons)) label ⌝ }
     requires { ⌜ (at .0 + 8 ≤ bankSize) × (at .0 % 2 ≡ 0) ⌝ }
     requires { ⌜ source < 1024 * 65536 ⌝ }
-    ensures { λ r. ⌜ Counted (now (src .entry)) (tab 8 (λ k. store (at .0 + k) (source + k % 2))) number
-        (memory (now (bank .entry)) (now (written .entry))) (memory (now (bank .exit)) (now (written .exit))) r ⌝ }
+    ensures { λ r. ⌜ Counted (now (src .entry)) (tab 8 (λ k. store (at .0 + k) (source + k % 2))) label
+        (memory (now (bank .entry)) (now (written .entry)) (now (reasons .entry)))
+        (memory (now (bank .exit)) (now (written .exit)) (now (reasons .exit))) r ⌝ }
 {
     let word = source_word(src, source, true);
     for k in 0..4 {
         let to = ByteAddr(at.0 + 2 * k);
-        store_pair(bank, written, word.bytes, to, 2 * k, 2 * k + 1, number);
+        store_pair(
+            bank,
+            written,
+            reasons,
+            word.bytes,
+            to,
+            2 * k,
+            2 * k + 1,
+            label,
+        );
     }
     Tally {
         count: 8,
@@ -60,25 +72,27 @@ fn write_tlut_entry(
 fn write_tlut_row(
     bank: &mut [u8],
     written: &mut [u8],
+    reasons: &mut [u8],
     src: &[u8],
     tile: LoadTile,
     count: usize,
     stride: usize,
     row: usize,
-    number: usize,
+    label: Label,
 ) -> Tally
-    requires { ⌜ Lent (memory (now bank) (now written)) number ⌝ }
+    requires { ⌜ Lent (memory (now bank) (now written) (now reasons)) label ⌝ }
     requires { ⌜ count ≤ 1024 ⌝ }
     requires { ⌜ stride ≤ 65535 ⌝ }
     requires { ⌜ row < 1024 ⌝ }
-    ensures { λ r. ⌜ Counted (now (src .entry)) (entryRow (loadOf tile) count stride row) number
-        (memory (now (bank .entry)) (now (written .entry))) (memory (now (bank .exit)) (now (written .exit))) r ⌝ }
+    ensures { λ r. ⌜ Counted (now (src .entry)) (entryRow (loadOf tile) count stride row) label
+        (memory (now (bank .entry)) (now (written .entry)) (now (reasons .entry)))
+        (memory (now (bank .exit)) (now (written .exit)) (now (reasons .exit))) r ⌝ }
 {
     let mut tally = Tally::none();
     for i in 0..count {
         let at = entry_addr(tile, row, i);
         let source = row * stride + 2 * i;
-        let more = write_tlut_entry(bank, written, src, at, source, number);
+        let more = write_tlut_entry(bank, written, reasons, src, at, source, label);
         tally = tally.plus(more);
     }
     tally
@@ -88,23 +102,25 @@ fn write_tlut_row(
 pub(crate) fn write_tlut_rows(
     bank: &mut [u8],
     written: &mut [u8],
+    reasons: &mut [u8],
     src: &[u8],
     tile: LoadTile,
     count: usize,
     rows: usize,
     stride: usize,
-    number: usize,
+    label: Label,
 ) -> Tally
-    requires { ⌜ Lent (memory (now bank) (now written)) number ⌝ }
+    requires { ⌜ Lent (memory (now bank) (now written) (now reasons)) label ⌝ }
     requires { ⌜ count ≤ 1024 ⌝ }
     requires { ⌜ rows ≤ 1024 ⌝ }
     requires { ⌜ stride ≤ 65535 ⌝ }
-    ensures { λ r. ⌜ Counted (now (src .entry)) (rowStores (loadOf tile) count rows stride) number
-        (memory (now (bank .entry)) (now (written .entry))) (memory (now (bank .exit)) (now (written .exit))) r ⌝ }
+    ensures { λ r. ⌜ Counted (now (src .entry)) (rowStores (loadOf tile) count rows stride) label
+        (memory (now (bank .entry)) (now (written .entry)) (now (reasons .entry)))
+        (memory (now (bank .exit)) (now (written .exit)) (now (reasons .exit))) r ⌝ }
 {
     let mut tally = Tally::none();
     for row in 0..rows {
-        let more = write_tlut_row(bank, written, src, tile, count, stride, row, number);
+        let more = write_tlut_row(bank, written, reasons, src, tile, count, stride, row, label);
         tally = tally.plus(more);
     }
     tally

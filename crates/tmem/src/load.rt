@@ -1,15 +1,19 @@
-// The loads: a block, a tile or a lookup table into the bank. Each refuses, or stores and leaves its number.
+// The loads: a block, a tile or a lookup table into the bank. Each refuses, or stores and leaves its number and its reason.
 ghost use mathlib.Core.Path.{_≡_};
 ghost use mathlib.Core.List.{[], _∷_};
 ghost use Rattle.rules.specs.Refusal.{first};
-ghost use Rattle.rules.specs.Calls.{numberSpent, numberTests, loadTests, blockCall, tileCall, tlutCall};
+ghost use Rattle.rules.specs.Calls.{lentTests, numberSpent, numberTests, loadTests, blockCall, tileCall, tlutCall};
 ghost use Rattle.rdp.specs.View.{tileOf, loadAnswered};
 ghost use Rattle.tmem.specs.Asked.{askedOutside, askedCall};
+ghost use Rattle.tmem.specs.Reasons.{reasonOf};
 use crate::asked::Asked;
 use crate::bank::Bank;
+use crate::label::Label;
 use crate::place::load_fields;
+use crate::reason::Reason;
 use rdp::answer::LoadAnswer;
 use rdp::refusal;
+use rdp::refusal::refuse;
 use rdp::tile::TileDescriptor;
 
 // The bytes that a source has at most.
@@ -38,18 +42,9 @@ pub fn is_spent(last: u32) -> bool
     LAST_LIMIT < last
 }
 
-// The first refusal of a load.
-fn load_refusal(
-    bank: &[u8],
-    written: &[u8],
-    src: &[u8],
-    tile: TileDescriptor,
-    image_siz: u32,
-    asked: Asked,
-    last: u32,
-) -> u32
-    ensures { λ r. ⌜ r ≡ first (loadTests (now (bank .entry)) (now (written .entry)) (now (src .entry)) (tileOf tile) «image_siz»
-        (askedOutside asked) last) ⌝ }
+// The refusal of the lengths of bank, written map and reasons. 0 is none.
+pub fn lent_refusal(bank: &[u8], written: &[u8], reasons: &[u8]) -> u32
+    ensures { λ r. ⌜ r ≡ first (lentTests (now (bank .entry)) (now (written .entry)) (now (reasons .entry)) []) ⌝ }
 {
     if bank.len() != Bank::SIZE {
         return refusal::LENGTH;
@@ -57,27 +52,67 @@ fn load_refusal(
     if written.len() != Bank::WRITTEN_SIZE {
         return refusal::LENGTH;
     }
-    let no = number_refusal(src.len(), tile, image_siz, asked);
-    if no != 0 {
-        return no;
+    if reasons.len() != Bank::REASONS_SIZE {
+        refusal::LENGTH
+    } else {
+        0
     }
-    if is_spent(last) { refusal::SPENT } else { 0 }
 }
 
-// Every load, after the one whose number is `last`: it refuses, or carries out what is asked, and answers.
-pub fn load(
-    bank: &mut [u8],
-    written: &mut [u8],
+// The first refusal of a load: 1, 2, 4, 19, 18.
+fn load_refusal(
+    bank: &[u8],
+    written: &[u8],
+    reasons: &[u8],
     src: &[u8],
     tile: TileDescriptor,
     image_siz: u32,
     asked: Asked,
+    reason: Reason,
+    last: u32,
+) -> u32
+    ensures { λ r. ⌜ r ≡ first (loadTests (now (bank .entry)) (now (written .entry)) (now (reasons .entry)) (now (src .entry))
+        (tileOf tile) «image_siz» (askedOutside asked) (reasonOf reason) last) ⌝ }
+{
+    let lent = lent_refusal(bank, written, reasons);
+    if lent != 0 {
+        return lent;
+    }
+    let no = number_refusal(src.len(), tile, image_siz, asked);
+    if no != 0 {
+        return no;
+    }
+    let spent = refuse(refusal::SPENT, is_spent(last), 0);
+    refuse(refusal::REASON, reason.outside(), spent)
+}
+
+// Every load, ordinary or rejected, after the one whose number is `last`: it refuses, or carries out what is asked, and answers.
+pub fn load(
+    bank: &mut [u8],
+    written: &mut [u8],
+    reasons: &mut [u8],
+    src: &[u8],
+    tile: TileDescriptor,
+    image_siz: u32,
+    asked: Asked,
+    reason: Reason,
     last: u32,
 ) -> LoadAnswer
-    ensures { λ r. ⌜ loadAnswered r (now (bank .exit) ∷ now (written .exit) ∷ [])
-        ≡ askedCall (now (bank .entry)) (now (written .entry)) (now (src .entry)) (tileOf tile) «image_siz» asked last ⌝ }
+    ensures { λ r. ⌜ loadAnswered r (now (bank .exit) ∷ now (written .exit) ∷ now (reasons .exit) ∷ [])
+        ≡ askedCall (now (bank .entry)) (now (written .entry)) (now (reasons .entry)) (now (src .entry)) (tileOf tile) «image_siz» asked
+        (reasonOf reason) last ⌝ }
 {
-    let no = load_refusal(bank, written, src, tile, image_siz, asked, last);
+    let no = load_refusal(
+        bank,
+        written,
+        reasons,
+        src,
+        tile,
+        image_siz,
+        asked,
+        reason,
+        last,
+    );
     if no != 0 {
         return LoadAnswer {
             refusal: no,
@@ -87,13 +122,18 @@ pub fn load(
         };
     }
     let number = last + 1;
+    let label = Label {
+        number: number as usize,
+        reason: reason.left(),
+    };
     let done = asked.write(
         bank,
         written,
+        reasons,
         src,
         load_fields(tile),
         image_siz,
-        number as usize,
+        label,
     );
     LoadAnswer {
         refusal: 0,
@@ -107,66 +147,104 @@ pub fn load(
 pub fn write_block_for_tile(
     bank: &mut [u8],
     written: &mut [u8],
+    reasons: &mut [u8],
     src: &[u8],
     tile: TileDescriptor,
     image_siz: u32,
     dxt: u32,
     word_count: u32,
+    reason: Reason,
     last: u32,
 ) -> LoadAnswer
-    ensures { λ r. ⌜ loadAnswered r (now (bank .exit) ∷ now (written .exit) ∷ [])
-        ≡ blockCall (now (bank .entry)) (now (written .entry)) (now (src .entry)) (tileOf tile) «image_siz» dxt «word_count» last ⌝ }
+    ensures { λ r. ⌜ loadAnswered r (now (bank .exit) ∷ now (written .exit) ∷ now (reasons .exit) ∷ [])
+        ≡ blockCall (now (bank .entry)) (now (written .entry)) (now (reasons .entry)) (now (src .entry)) (tileOf tile) «image_siz» dxt «word_count»
+        (reasonOf reason) last ⌝ }
 {
     let asked = Asked::Block {
         dxt: dxt as usize,
         words: word_count as usize,
     };
-    load(bank, written, src, tile, image_siz, asked, last)
+    load(
+        bank,
+        written,
+        reasons,
+        src,
+        tile,
+        image_siz,
+        asked,
+        reason,
+        last,
+    )
 }
 
 // Rows of words, which stand `stride` bytes apart in the source.
 pub fn write_tile_for_tile(
     bank: &mut [u8],
     written: &mut [u8],
+    reasons: &mut [u8],
     src: &[u8],
     tile: TileDescriptor,
     image_siz: u32,
     row_count: u32,
     words_per_row: u32,
     stride: u32,
+    reason: Reason,
     last: u32,
 ) -> LoadAnswer
-    ensures { λ r. ⌜ loadAnswered r (now (bank .exit) ∷ now (written .exit) ∷ [])
-        ≡ tileCall (now (bank .entry)) (now (written .entry)) (now (src .entry)) (tileOf tile) «image_siz»
-        «row_count» «words_per_row» stride last ⌝ }
+    ensures { λ r. ⌜ loadAnswered r (now (bank .exit) ∷ now (written .exit) ∷ now (reasons .exit) ∷ [])
+        ≡ tileCall (now (bank .entry)) (now (written .entry)) (now (reasons .entry)) (now (src .entry)) (tileOf tile) «image_siz»
+        «row_count» «words_per_row» stride (reasonOf reason) last ⌝ }
 {
     let asked = Asked::Tile {
         rows: row_count as usize,
         words: words_per_row as usize,
         stride: stride as usize,
     };
-    load(bank, written, src, tile, image_siz, asked, last)
+    load(
+        bank,
+        written,
+        reasons,
+        src,
+        tile,
+        image_siz,
+        asked,
+        reason,
+        last,
+    )
 }
 
 // A lookup table of `count` entries a row.
 pub fn write_tlut_for_tile(
     bank: &mut [u8],
     written: &mut [u8],
+    reasons: &mut [u8],
     src: &[u8],
     tile: TileDescriptor,
     image_siz: u32,
     count: u32,
     rows: u32,
     stride: u32,
+    reason: Reason,
     last: u32,
 ) -> LoadAnswer
-    ensures { λ r. ⌜ loadAnswered r (now (bank .exit) ∷ now (written .exit) ∷ [])
-        ≡ tlutCall (now (bank .entry)) (now (written .entry)) (now (src .entry)) (tileOf tile) «image_siz» count rows stride last ⌝ }
+    ensures { λ r. ⌜ loadAnswered r (now (bank .exit) ∷ now (written .exit) ∷ now (reasons .exit) ∷ [])
+        ≡ tlutCall (now (bank .entry)) (now (written .entry)) (now (reasons .entry)) (now (src .entry)) (tileOf tile) «image_siz» count rows stride
+        (reasonOf reason) last ⌝ }
 {
     let asked = Asked::Tlut {
         count: count as usize,
         rows: rows as usize,
         stride: stride as usize,
     };
-    load(bank, written, src, tile, image_siz, asked, last)
+    load(
+        bank,
+        written,
+        reasons,
+        src,
+        tile,
+        image_siz,
+        asked,
+        reason,
+        last,
+    )
 }

@@ -4,6 +4,7 @@ ghost use Prim.Native.Nat.{_≤_};
 ghost use Rattle.rules.specs.Load.{entries, advance, steps, hardwareStores, tlutStores};
 ghost use Rattle.tmem.specs.Part.{loadOf, memory, Lent, Counted};
 use crate::entries::write_tlut_rows;
+use crate::label::Label;
 use crate::place::LoadTile;
 use crate::tally::Tally;
 use crate::words::Run;
@@ -42,17 +43,19 @@ fn tlut_advance(image_siz: u32) -> usize
 fn write_tlut_words(
     bank: &mut [u8],
     written: &mut [u8],
+    reasons: &mut [u8],
     src: &[u8],
     tile: LoadTile,
     image_siz: u32,
     count: usize,
-    number: usize,
+    label: Label,
 ) -> Tally
-    requires { ⌜ Lent (memory (now bank) (now written)) number ⌝ }
+    requires { ⌜ Lent (memory (now bank) (now written) (now reasons)) label ⌝ }
     requires { ⌜ «image_siz» ≤ 3 ⌝ }
     requires { ⌜ count ≤ 1024 ⌝ }
-    ensures { λ r. ⌜ Counted (now (src .entry)) (hardwareStores (loadOf tile) «image_siz» count) number
-        (memory (now (bank .entry)) (now (written .entry))) (memory (now (bank .exit)) (now (written .exit))) r ⌝ }
+    ensures { λ r. ⌜ Counted (now (src .entry)) (hardwareStores (loadOf tile) «image_siz» count) label
+        (memory (now (bank .entry)) (now (written .entry)) (now (reasons .entry)))
+        (memory (now (bank .exit)) (now (written .exit)) (now (reasons .exit))) r ⌝ }
 {
     let columns = 64usize >> image_siz;
     let advance = tlut_advance(image_siz);
@@ -65,31 +68,43 @@ fn write_tlut_words(
         replicate: true,
     };
     let steps = tlut_steps(image_siz, count);
-    write_words(bank, written, src, tile, run, steps, number)
+    write_words(bank, written, reasons, src, tile, run, steps, label)
 }
 
 // A lookup table: the hardware's load for one row of an image above size 0, rows of entries otherwise.
 pub(crate) fn write_tlut(
     bank: &mut [u8],
     written: &mut [u8],
+    reasons: &mut [u8],
     src: &[u8],
     tile: LoadTile,
     image_siz: u32,
     count: usize,
     rows: usize,
     stride: usize,
-    number: usize,
+    label: Label,
 ) -> Tally
-    requires { ⌜ Lent (memory (now bank) (now written)) number ⌝ }
+    requires { ⌜ Lent (memory (now bank) (now written) (now reasons)) label ⌝ }
     requires { ⌜ «image_siz» ≤ 3 ⌝ }
     requires { ⌜ count ≤ 1024 ⌝ }
     requires { ⌜ rows ≤ 1024 ⌝ }
     requires { ⌜ stride ≤ 65535 ⌝ }
-    ensures { λ r. ⌜ Counted (now (src .entry)) (tlutStores (loadOf tile) «image_siz» count rows stride) number
-        (memory (now (bank .entry)) (now (written .entry))) (memory (now (bank .exit)) (now (written .exit))) r ⌝ }
+    ensures { λ r. ⌜ Counted (now (src .entry)) (tlutStores (loadOf tile) «image_siz» count rows stride) label
+        (memory (now (bank .entry)) (now (written .entry)) (now (reasons .entry)))
+        (memory (now (bank .exit)) (now (written .exit)) (now (reasons .exit))) r ⌝ }
 {
     if (rows == 1) & (0 < image_siz) {
-        return write_tlut_words(bank, written, src, tile, image_siz, count, number);
+        return write_tlut_words(bank, written, reasons, src, tile, image_siz, count, label);
     }
-    write_tlut_rows(bank, written, src, tile, count, rows, stride, number)
+    write_tlut_rows(
+        bank,
+        written,
+        reasons,
+        src,
+        tile,
+        count,
+        rows,
+        stride,
+        label,
+    )
 }

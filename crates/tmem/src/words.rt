@@ -3,6 +3,7 @@ ghost use mathlib.Core.Path.{_≡_};
 ghost use Prim.Native.Nat.{_<_, _≤_, _^_};
 ghost use Rattle.tmem.specs.Part.{loadOf, memory, Lent, Counted};
 ghost use Rattle.tmem.specs.Run.{Paced, imageRun, wordAt, runStores};
+use crate::label::Label;
 use crate::place::LoadTile;
 use crate::tally::Tally;
 use crate::word::write_load_word;
@@ -69,17 +70,19 @@ impl Run {
 pub(crate) fn write_words(
     bank: &mut [u8],
     written: &mut [u8],
+    reasons: &mut [u8],
     src: &[u8],
     tile: LoadTile,
     run: Run,
     words: usize,
-    number: usize,
+    label: Label,
 ) -> Tally
-    requires { ⌜ Lent (memory (now bank) (now written)) number ⌝ }
+    requires { ⌜ Lent (memory (now bank) (now written) (now reasons)) label ⌝ }
     requires { ⌜ Paced run ⌝ }
     requires { ⌜ words ≤ 2048 ⌝ }
-    ensures { λ r. ⌜ Counted (now (src .entry)) (runStores (loadOf tile) run words) number
-        (memory (now (bank .entry)) (now (written .entry))) (memory (now (bank .exit)) (now (written .exit))) r ⌝ }
+    ensures { λ r. ⌜ Counted (now (src .entry)) (runStores (loadOf tile) run words) label
+        (memory (now (bank .entry)) (now (written .entry)) (now (reasons .entry)))
+        (memory (now (bank .exit)) (now (written .exit)) (now (reasons .exit))) r ⌝ }
 {
     let mut tally = Tally::none();
     for word in 0..words {
@@ -87,13 +90,14 @@ pub(crate) fn write_words(
         let more = write_load_word(
             bank,
             written,
+            reasons,
             src,
             tile,
             at.s,
             at.t,
             at.source,
             run.replicate,
-            number,
+            label,
         );
         tally = tally.plus(more);
     }

@@ -12,17 +12,17 @@ use Rattle.tmem.proofs.entries.write_tlut_entry.Statement.{statement}
 use Rattle.tmem.proofs.entries.write_tlut_entry.Tie as tie
 
 abbrev Inv-loop : tie.InvT-loop
-Inv-loop bank₀ written₀ src at source number word k₀ bank written k =
-    Turn 4 (entryTurn (at .0)) (bytesIn (word .bytes)) number (memory bank₀ written₀) k (memory bank written)
+Inv-loop bank₀ written₀ reasons₀ src at source label word k₀ bank written reasons k =
+    Turn 4 (entryTurn (at .0)) (bytesIn (word .bytes)) label (memory bank₀ written₀ reasons₀) k (memory bank written reasons)
 
 abbrev μ-loop : tie.MeasureT-loop
-μ-loop bank₀ written₀ src at source number word k₀ bank written k = 4 - k
+μ-loop bank₀ written₀ reasons₀ src at source label word k₀ bank written reasons k = 4 - k
 
 source-word-requires : tie.Need-source-word-requires Inv-loop μ-loop
 source-word-requires c κs = omega arith
 
 loop-holds : tie.Need-loop-holds Inv-loop μ-loop
-loop-holds c = begin (c .before .before .before .before .pre .0)
+loop-holds c = begin (c .before .before .before .before .before .pre .0)
 
 mul-store-pair : tie.Need-mul-store-pair Inv-loop μ-loop
 mul-store-pair c = omega arith
@@ -41,7 +41,7 @@ add-store-pair-2 c = omega arith
 
 store-pair-requires : tie.Need-store-pair-requires Inv-loop μ-loop
 store-pair-requires c κs =
-    let d = c .before .before .before in
+    let d = c .before .before .before .before in
     (d .before .loop .inv .lent, ((omega arith, omega arith), (omega arith, omega arith)))
 
 add-k : tie.Need-add-k Inv-loop μ-loop
@@ -52,8 +52,8 @@ loop-less c = omega arith
 
 loop-again : tie.Need-loop-again Inv-loop μ-loop
 loop-again c =
-    let d = c .before .before .before .before in
-    let l = d .before .before .before .before in
+    let d = c .before .before .before .before .before .before in
+    let l = d .before .before .before .before .before in
     next (l .before .loop .inv) (l .loop-test .taken) (d .store-pair .ensures)
 
 same-length : tie.Need-same-length Inv-loop μ-loop
@@ -62,10 +62,13 @@ same-length c = omega arith
 same-length-2 : tie.Need-same-length-2 Inv-loop μ-loop
 same-length-2 c = omega arith
 
+same-length-3 : tie.Need-same-length-3 Inv-loop μ-loop
+same-length-3 c = omega arith
+
 returns : tie.Need-returns Inv-loop μ-loop
 returns c =
     let w = c .before .before in
-    let a = w .before .before .before .before .args in
+    let a = w .before .before .before .before .before .args in
     let word = w .source-word .ensures in
     let carried = finish (c .before .loop .inv) (c .loop-test .left) in
     let stored = rw (word .bytes-are, entry-is (a .at .0)) at carried in
@@ -93,4 +96,5 @@ write-tlut-entry-spec =
     loop-again
     same-length
     same-length-2
+    same-length-3
     returns)

@@ -16,15 +16,15 @@ image-tile-requires : tie.Need-image-tile-requires
 image-tile-requires c κs = search needs
 
 mul-of-image : tie.Need-mul-of-image
-mul-of-image c = omega (arith, place-within (c .before .before .before .before))
+mul-of-image c = omega (arith, place-within (c .before .before .before .before .before))
 
 of-image-requires : tie.Need-of-image-requires
 of-image-requires c κs = search needs
 
 write-words-requires : tie.Need-write-words-requires
 write-words-requires c κs =
-    let r = c .before .before in
-    let s = r .before .before .before .before .before in
+    let r = c .before .before .before in
+    let s = r .before .before .before .before .before .before in
     let paced = image-paced (s .args .image-siz) (s .args .row) 0 (s .args .row * s .args .stride) (omega arith) (place-within s) in
     (s .pre .0, (rw (r .of-image .ensures) paced, omega (arith, s .pre)))
 
@@ -34,11 +34,14 @@ same-length c = search needs
 same-length-2 : tie.Need-same-length-2
 same-length-2 c = search needs
 
+same-length-3 : tie.Need-same-length-3
+same-length-3 c = search needs
+
 returns : tie.Need-returns
 returns c =
-    let d = c .before .before .before .before in
-    let r = d .before .before .before in
-    let a = r .before .before .before .before .before .args in
+    let d = c .before .before .before .before .before .before in
+    let r = d .before .before .before .before in
+    let a = r .before .before .before .before .before .before .args in
     let is = row-is (loadOf (a .tile)) (a .image-siz) (a .words) (a .stride) (a .row) (r .before .image-tile .ensures) in
     rw (← is, ← r .of-image .ensures) (d .write-words .ensures)
 
@@ -52,4 +55,5 @@ write-tile-row-spec =
     write-words-requires
     same-length
     same-length-2
+    same-length-3
     returns)

@@ -18,8 +18,8 @@ tlut-steps-requires c κs = search needs
 
 write-words-requires : tie.Need-write-words-requires
 write-words-requires c κs =
-    let n = c .before .before in
-    let s = n .before .before .before .before .before in
+    let n = c .before .before .before in
+    let s = n .before .before .before .before .before .before in
     let few : n .tlut-steps .result ≤ 1024 =
     rw (n .tlut-steps .ensures) (steps-within (s .args .image-siz) (s .args .count) (s .pre .1 .0) (s .pre .1 .1)) in
     (s .pre .0, (rw (n .before .tlut-advance .ensures) (tlut-paced (s .args .image-siz)), omega (arith, few)))
@@ -30,11 +30,14 @@ same-length c = search needs
 same-length-2 : tie.Need-same-length-2
 same-length-2 c = search needs
 
+same-length-3 : tie.Need-same-length-3
+same-length-3 c = search needs
+
 returns : tie.Need-returns
 returns c =
-    let d = c .before .before .before .before in
-    let s = d .before .before .before .before .before .before .before .before in
-    let n = d .before .before .before in
+    let d = c .before .before .before .before .before .before in
+    let s = d .before .before .before .before .before .before .before .before .before .before in
+    let n = d .before .before .before .before in
     let is = tlut-is (loadOf (s .args .tile)) (s .args .image-siz) (s .args .count) in
     rw (← is, ← n .tlut-steps .ensures, ← n .before .tlut-advance .ensures) (d .write-words .ensures)
 
@@ -48,4 +51,5 @@ write-tlut-words-spec =
     write-words-requires
     same-length
     same-length-2
+    same-length-3
     returns)

@@ -19,12 +19,15 @@ same-length c = search needs
 same-length-2 : tie.Need-same-length-2
 same-length-2 c = search needs
 
+same-length-3 : tie.Need-same-length-3
+same-length-3 c = search needs
+
 returns : tie.Need-returns
 returns c =
-    let d = c .before .before .before .before in
+    let d = c .before .before .before .before .before .before in
     let second = d .before in
     let first = second .before in
-    let s = first .before .before .before .before .before in
+    let s = first .before .before .before .before .before .before .before in
     let a = s .args in
     pair-stored (a .word) (a .at .0) (a .k) (a .next-k) _ _ (s .pre .1 .1 .0) (s .pre .1 .1 .1) (first .byte-of .ensures)
     (second .byte-of2 .ensures) (d .store-halfword .ensures)
@@ -38,4 +41,5 @@ store-pair-spec =
     store-halfword-requires
     same-length
     same-length-2
+    same-length-3
     returns)

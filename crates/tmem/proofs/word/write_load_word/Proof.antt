@@ -13,10 +13,10 @@ use Rattle.tmem.proofs.word.write_load_word.Statement.{statement}
 use Rattle.tmem.proofs.word.write_load_word.Tie as tie
 
 -- the word's numbers, once they are found
-found : (c : tie.After-first-halfword) → let a = c .before .before .before .before .before .before .args in
+found : (c : tie.After-first-halfword) → let a = c .before .before .before .before .before .before .before .args in
     Found (loadOf (a .tile)) (a .s) (a .t) (c .before .before .column-halfword .result .0) (c .first-halfword .result .0) (a .t % 2 * 2)
 found c =
-    let a = c .before .before .before .before .before .before .args in
+    let a = c .before .before .before .before .before .before .before .args in
     let wraps = first-wraps (base (loadOf (a .tile)) (a .t)) (c .before .before .column-halfword .result .0) in
     record {
       half-is = c .before .before .column-halfword .ensures;
@@ -41,8 +41,8 @@ source-word-requires c κs = search needs
 
 write-split-word-requires : tie.Need-write-split-word-requires
 write-split-word-requires c κs =
-    let d = c .before .before .before .before .before .before .before .before in
-    (d .before .before .before .before .before .before .pre .0, (spots (found d), start-within (found d)))
+    let d = c .before .before .before .before .before .before .before .before .before in
+    (d .before .before .before .before .before .before .before .pre .0, (spots (found d), start-within (found d)))
 
 same-length : tie.Need-same-length
 same-length c = search needs
@@ -50,13 +50,16 @@ same-length c = search needs
 same-length-2 : tie.Need-same-length-2
 same-length-2 c = search needs
 
+same-length-3 : tie.Need-same-length-3
+same-length-3 c = search needs
+
 returns : tie.Need-returns
 returns c =
-    let d = c .before .before .before .before in
-    let e = d .before .before .before .before in
+    let d = c .before .before .before .before .before .before in
+    let e = d .before .before .before .before .before in
     let w = e .before .before .before .before in
     let f = w .before in
-    let a = f .before .before .before .before .before .before .args in
+    let a = f .before .before .before .before .before .before .before .args in
     let from = placeOf (a .source) (a .replicate) in
     let word = w .source-word .ensures in
     let stores = rw (word .bytes-are) at (d .write-split-word .ensures) in
@@ -68,22 +71,25 @@ returns c =
 
 write-whole-word-requires : tie.Need-write-whole-word-requires
 write-whole-word-requires c κs =
-    let d = c .before .before .before .before .before .before .before in
-    (d .before .before .before .before .before .before .pre .0, spots (found d))
-
-same-length-3 : tie.Need-same-length-3
-same-length-3 c = search needs
+    let d = c .before .before .before .before .before .before .before .before in
+    (d .before .before .before .before .before .before .before .pre .0, spots (found d))
 
 same-length-4 : tie.Need-same-length-4
 same-length-4 c = search needs
 
+same-length-5 : tie.Need-same-length-5
+same-length-5 c = search needs
+
+same-length-6 : tie.Need-same-length-6
+same-length-6 c = search needs
+
 returns-2 : tie.Need-returns-2
 returns-2 c =
-    let d = c .before .before .before .before in
-    let e = d .before .before .before in
+    let d = c .before .before .before .before .before .before in
+    let e = d .before .before .before .before in
     let w = e .before .before .before .before in
     let f = w .before in
-    let a = f .before .before .before .before .before .before .args in
+    let a = f .before .before .before .before .before .before .before .args in
     let from = placeOf (a .source) (a .replicate) in
     let word = w .source-word .ensures in
     let stores = rw (word .bytes-are) at (d .write-whole-word .ensures) in
@@ -105,8 +111,10 @@ write-load-word-spec =
     write-split-word-requires
     same-length
     same-length-2
+    same-length-3
     returns
     write-whole-word-requires
-    same-length-3
     same-length-4
+    same-length-5
+    same-length-6
     returns-2)

@@ -25,43 +25,49 @@ same-length c = search needs
 same-length-2 : tie.Need-same-length-2
 same-length-2 c = search needs
 
+same-length-3 : tie.Need-same-length-3
+same-length-3 c = search needs
+
 returns : tie.Need-returns
 returns c =
-    let d = c .before .before .before .before in
-    let t = d .before .before .before in
-    let k = t .before .before .before .args .k in
+    let d = c .before .before .before .before .before .before in
+    let t = d .before .before .before .before in
+    let k = t .before .before .before .before .args .k in
     rw (t .if1 .taken, xor-zero-r k) (d .store-pair .ensures)
 
 -- the other place is one of the four
-other-within : (c : tie.Else1) → bitXor (c .before .before .before .args .k) 2 < 4
-other-within c = xor-lt 2 (c .before .before .before .args .k) 2 (c .before .before .before .pre .1 .1 .1) (omega arith)
+other-within : (c : tie.Else1) → bitXor (c .before .before .before .before .args .k) 2 < 4
+other-within c = xor-lt 2 (c .before .before .before .before .args .k) 2 (c .before .before .before .before .pre .1 .1 .1) (omega arith)
 
 mul-store-pair-3 : tie.Need-mul-store-pair-3
-mul-store-pair-3 c = omega (arith, other-within (c .before .before))
+mul-store-pair-3 c = omega (arith, other-within (c .before .before .before))
 
 mul-store-pair-4 : tie.Need-mul-store-pair-4
-mul-store-pair-4 c = omega (arith, other-within (c .before .before))
+mul-store-pair-4 c = omega (arith, other-within (c .before .before .before))
 
 add-store-pair-2 : tie.Need-add-store-pair-2
-add-store-pair-2 c = omega (arith, other-within (c .before .before))
+add-store-pair-2 c = omega (arith, other-within (c .before .before .before))
 
 store-pair-requires-2 : tie.Need-store-pair-requires-2
 store-pair-requires-2 c κs =
-    let e = c .before .before in
-    let s = e .before .before .before in
+    let e = c .before .before .before in
+    let s = e .before .before .before .before in
     (s .pre .0, (s .pre .1 .0, (omega (arith, other-within e), omega (arith, other-within e))))
-
-same-length-3 : tie.Need-same-length-3
-same-length-3 c = search needs
 
 same-length-4 : tie.Need-same-length-4
 same-length-4 c = search needs
 
+same-length-5 : tie.Need-same-length-5
+same-length-5 c = search needs
+
+same-length-6 : tie.Need-same-length-6
+same-length-6 c = search needs
+
 returns-2 : tie.Need-returns-2
 returns-2 c =
-    let d = c .before .before .before .before in
-    let e = d .before .before .before in
-    let s = e .before .before .before in
+    let d = c .before .before .before .before .before .before in
+    let e = d .before .before .before .before in
+    let s = e .before .before .before .before in
     let two : s .args .odd ≡ 2 = omega (arith, e .if1 .left, s .pre .1 .1 .0) in
     rw two (d .store-pair2 .ensures)
 
@@ -75,11 +81,13 @@ write-whole-place-spec =
     store-pair-requires
     same-length
     same-length-2
+    same-length-3
     returns
     mul-store-pair-3
     mul-store-pair-4
     add-store-pair-2
     store-pair-requires-2
-    same-length-3
     same-length-4
+    same-length-5
+    same-length-6
     returns-2)

@@ -9,8 +9,8 @@ enum-known-self c = search needs
 
 write-block-words-requires : tie.Need-write-block-words-requires
 write-block-words-requires c κs =
-    let k = c .before .before .before in
-    let s = k .before .before .before .before .before in
+    let k = c .before .before .before .before in
+    let s = k .before .before .before .before .before .before in
     (s .pre .0, (s .pre .1 .0, block-in _ _ (rw (k .self .given .1) at (s .pre .1 .1))))
 
 enum-known-self-2 : tie.Need-enum-known-self-2
@@ -18,8 +18,8 @@ enum-known-self-2 c = search needs
 
 write-tile-rows-requires : tie.Need-write-tile-rows-requires
 write-tile-rows-requires c κs =
-    let k = c .before .before .before in
-    let s = k .before .before .before .before .before in
+    let k = c .before .before .before .before in
+    let s = k .before .before .before .before .before .before in
     (s .pre .0, (s .pre .1 .0, tile-in _ _ _ (rw (k .self2 .given .1) at (s .pre .1 .1))))
 
 enum-known-self-3 : tie.Need-enum-known-self-3
@@ -27,8 +27,8 @@ enum-known-self-3 c = search needs
 
 write-tlut-requires : tie.Need-write-tlut-requires
 write-tlut-requires c κs =
-    let k = c .before .before .before in
-    let s = k .before .before .before .before .before in
+    let k = c .before .before .before .before in
+    let s = k .before .before .before .before .before .before in
     (s .pre .0, (s .pre .1 .0, tlut-in _ _ _ (rw (k .self3 .given .1) at (s .pre .1 .1))))
 
 same-length : tie.Need-same-length
@@ -37,21 +37,16 @@ same-length c = search needs
 same-length-2 : tie.Need-same-length-2
 same-length-2 c = search needs
 
-returns : tie.Need-returns
-returns c =
-    let d = c .before .before .before .before in
-    rw (d .before .before .before .before .self .given .1) (d .write-block-words .ensures)
-
 same-length-3 : tie.Need-same-length-3
 same-length-3 c = search needs
 
+returns : tie.Need-returns
+returns c =
+    let d = c .before .before .before .before .before .before in
+    rw (d .before .before .before .before .before .self .given .1) (d .write-block-words .ensures)
+
 same-length-4 : tie.Need-same-length-4
 same-length-4 c = search needs
-
-returns-2 : tie.Need-returns-2
-returns-2 c =
-    let d = c .before .before .before .before in
-    rw (d .before .before .before .before .self2 .given .1) (d .write-tile-rows .ensures)
 
 same-length-5 : tie.Need-same-length-5
 same-length-5 c = search needs
@@ -59,10 +54,24 @@ same-length-5 c = search needs
 same-length-6 : tie.Need-same-length-6
 same-length-6 c = search needs
 
+returns-2 : tie.Need-returns-2
+returns-2 c =
+    let d = c .before .before .before .before .before .before in
+    rw (d .before .before .before .before .before .self2 .given .1) (d .write-tile-rows .ensures)
+
+same-length-7 : tie.Need-same-length-7
+same-length-7 c = search needs
+
+same-length-8 : tie.Need-same-length-8
+same-length-8 c = search needs
+
+same-length-9 : tie.Need-same-length-9
+same-length-9 c = search needs
+
 returns-3 : tie.Need-returns-3
 returns-3 c =
-    let d = c .before .before .before .before in
-    rw (d .before .before .before .before .self3 .given .1) (d .write-tlut .ensures)
+    let d = c .before .before .before .before .before .before in
+    rw (d .before .before .before .before .before .self3 .given .1) (d .write-tlut .ensures)
 
 pub write-spec : {M : Type 1} → statement M
 write-spec =
@@ -76,10 +85,13 @@ write-spec =
     write-tlut-requires
     same-length
     same-length-2
-    returns
     same-length-3
+    returns
     same-length-4
-    returns-2
     same-length-5
     same-length-6
+    returns-2
+    same-length-7
+    same-length-8
+    same-length-9
     returns-3)
