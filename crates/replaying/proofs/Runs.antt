@@ -7,13 +7,13 @@ use lib.ListN.{length, take, length-append}
 use lib.Seq.{length-take-le}
 use borrow.Author.Tests.{lt-ltb, le-ltb, ltb-false}
 use Rattle.rules.specs.Base.{recordOf, over}
-use Rattle.rules.specs.Tile.{bankSize, writtenSize}
 use Rattle.rules.specs.Lister.{lineText, numberText}
 use Rattle.rules.specs.Refusal.{Outcome, first}
+use Rattle.rules.specs.Calls.{lentTests, AllLent}
 use Rattle.rules.specs.Replay.{replaySize, replayRoom, Carried, carried, Piece, inPiece, lineIn, onward, replayed, lines, texts}
 use Rattle.rules.specs.Replay.{firstRecords, recordCount, recordsIn, ready, shortText, runTests, runCall}
-use Rattle.rules.proofs.Refused.{first-zero, done-or-is}
-use Rattle.rules.proofs.LentTests.{both-lent, lent-passed}
+use Rattle.rules.proofs.Refused.{numbered, first-zero, first-before, first-after, done-or-is}
+use Rattle.rules.proofs.LentTests.{lent-passed}
 use Rattle.rules.proofs.Tables.{tab-none, tab-more}
 use Rattle.rules.proofs.Replay.{replayed-append, lines-append, texts-append}
 use Rattle.decimal.proofs.Texts.{Put}
@@ -71,45 +71,57 @@ module _ (p : Piece) (input : List ℕ) (m : Carried) (out : List ℕ) where
       })
 
 -- The run's call, by its tests.
-module _ (bank map input out : List ℕ) where
-  module _ (b : length bank ≡ bankSize) (m : length map ≡ writtenSize) where
-    lent : first (runTests bank map input out) ≡ first (shortText input out ∷ [])
-    lent = both-lent bank map (shortText input out ∷ []) b m
+module _ (bank map reasons input out : List ℕ) where
+  module _ (n : ℕ) (is : n ≡ first (lentTests bank map reasons [])) where
+    pub run-unlent : (n ≡ 0 → ⊥) → n ≡ first (runTests bank map reasons input out)
+    run-unlent = first-before (lentTests bank map reasons []) (shortText input out ∷ []) n (numbered _ refl) is
 
-    pub run-short-text : length out < replayRoom * recordCount input → 6 ≡ first (runTests bank map input out)
+    lent : n ≡ 0 → first (runTests bank map reasons input out) ≡ first (shortText input out ∷ [])
+    lent z = first-after (lentTests bank map reasons []) (shortText input out ∷ []) (numbered _ refl) (sym is ∙ z)
+
+    pub run-short-text : n ≡ 0 → length out < replayRoom * recordCount input → 6 ≡ first (runTests bank map reasons input out)
     unfolding first
-    run-short-text h = sym (lent ∙ rw (lt-ltb _ _ h))
+    run-short-text z h = sym (lent z ∙ rw (lt-ltb _ _ h))
 
-    pub run-whole : replayRoom * recordCount input ≤ length out → 0 ≡ first (runTests bank map input out)
+    pub run-whole : n ≡ 0 → replayRoom * recordCount input ≤ length out → 0 ≡ first (runTests bank map reasons input out)
     unfolding first
-    run-whole h = sym (lent ∙ rw (le-ltb _ _ h))
+    run-whole z h = sym (lent z ∙ rw (le-ltb _ _ h))
 
-  module _ (passed : first (runTests bank map input out) ≡ 0) where
-    -- a run that is not refused was lent a whole bank and a whole map, and has room for its lines
-    pub run-lent : ((length bank ≡ bankSize) × (length map ≡ writtenSize)) × (replayRoom * recordCount input ≤ length out)
+  module _ (passed : first (runTests bank map reasons input out) ≡ 0) where
+    -- a run that is not refused was lent whole buffers, and has room for its lines
+    pub run-lent : AllLent bank map reasons × (replayRoom * recordCount input ≤ length out)
     run-lent =
-        let p = lent-passed bank map (shortText input out ∷ []) passed in
+        let p = lent-passed bank map reasons (shortText input out ∷ []) passed in
         (p .0, ltb-false _ _ (first-zero (shortText input out) [] (λ e. omega arith) (p .1) .0))
 
     -- and answers and leaves what its call says
-    pub run-done : (p : Piece) (n end last number : ℕ) (bank′ map′ out′ : List ℕ) → n ≡ ready p (recordsIn input)
-        → Run p (firstRecords input n) (carried bank map last) out (carried bank′ map′ number) out′ end
-        → record { refusal = 0; numbers = n ∷ end ∷ number ∷ []; buffers = bank′ ∷ map′ ∷ out′ ∷ [] } ≡ runCall bank map input p out last
+    pub run-done : (p : Piece) (n end last : ℕ) (m′ : Carried) (out′ : List ℕ) → n ≡ ready p (recordsIn input)
+        → Run p (firstRecords input n) (carried bank map reasons last) out m′ out′ end
+        → record {
+          refusal = 0;
+          numbers = n ∷ end ∷ m′ .last ∷ [];
+          buffers = m′ .bank ∷ m′ .map ∷ m′ .reasons ∷ out′ ∷ [];
+        }
+        ≡ runCall (carried bank map reasons last) input p out
     unfolding runCall
-    run-done p n end last number bank′ map′ out′ e r =
+    run-done p n end last m′ out′ e r =
         let same = r .carried-is in
         (λ i. record {
           refusal = 0;
           numbers = n ∷ r .ends i ∷ same i .last ∷ [];
-          buffers = same i .bank ∷ same i .map ∷ r .text-is i ∷ [];
+          buffers = same i .bank ∷ same i .map ∷ same i .reasons ∷ r .text-is i ∷ [];
         })
         ∙ (λ i. Of (e i))
-        ∙ done-or-is (runTests bank map input out) _ _ _ _ passed
+        ∙ done-or-is (runTests bank map reasons input out) _ _ _ _ passed
       where
         -- what n records answer and leave
         Of : ℕ → Outcome
         Of n =
             let l = firstRecords input n in
-            let text = texts (lines (inPiece p) l (carried bank map last)) in
-            let m = replayed (inPiece p) l (carried bank map last) in
-            record { refusal = 0; numbers = n ∷ length text ∷ m .last ∷ []; buffers = m .bank ∷ m .map ∷ over text out ∷ [] }
+            let text = texts (lines (inPiece p) l (carried bank map reasons last)) in
+            let m = replayed (inPiece p) l (carried bank map reasons last) in
+            record {
+              refusal = 0;
+              numbers = n ∷ length text ∷ m .last ∷ [];
+              buffers = m .bank ∷ m .map ∷ m .reasons ∷ over text out ∷ [];
+            }

@@ -5,7 +5,7 @@ ghost use mathlib.Core.List.{[], _∷_};
 ghost use Prim.Native.Nat.{_+_, _*_, _<_, _≤_};
 ghost use lib.ListN.{length};
 ghost use Rattle.rules.specs.Base.{recordOf};
-ghost use Rattle.rules.specs.Tile.{bankSize, writtenSize};
+ghost use Rattle.rules.specs.Calls.{AllLent};
 ghost use Rattle.rules.specs.Refusal.{first};
 ghost use Rattle.rules.specs.Replay.{replaySize, replayRoom, carried, piece, atHand, inPiece, ready};
 ghost use Rattle.rules.specs.Replay.{recordCount, recordsIn, firstRecords, runTests, runCall};
@@ -23,7 +23,7 @@ use decimal::number::NUMBER_ROOM;
 use rdp::answer::ReplayAnswer;
 use rdp::answer::RunAnswer;
 use rdp::refusal;
-use tmem::bank::Bank;
+use tmem::load::lent_refusal;
 
 // The bytes of a record.
 pub const RECORD: usize = 48;
@@ -40,24 +40,25 @@ pub const LINE_ROOM: usize = 2 * NUMBER_ROOM;
 fn replay_at_hand(
     bank: &mut [u8],
     written: &mut [u8],
+    reasons: &mut [u8],
     bytes: &[u8],
     end: u64,
     start: u64,
     held: &[u8],
     last: u32,
 ) -> ReplayAnswer
-    requires { ⌜ (length (now bank) ≡ bankSize) × (length (now written) ≡ writtenSize) ⌝ }
+    requires { ⌜ AllLent (now bank) (now written) (now reasons) ⌝ }
     requires { ⌜ atHand (piece end start (now held)) (now bytes) ≡ true ⌝ }
-    ensures { λ r. ⌜ replayAnswered r (now (bank .exit) ∷ now (written .exit) ∷ [])
+    ensures { λ r. ⌜ replayAnswered r (now (bank .exit) ∷ now (written .exit) ∷ now (reasons .exit) ∷ [])
         ≡ inPiece (piece end start (now (held .entry))) (now (bytes .entry))
-        (carried (now (bank .entry)) (now (written .entry)) last) ⌝ }
+        (carried (now (bank .entry)) (now (written .entry)) (now (reasons .entry)) last) ⌝ }
 {
     if !takes_part(bytes, end) {
-        return replay_step(bank, written, bytes, end, &held[..0], last);
+        return replay_step(bank, written, reasons, bytes, end, &held[..0], last);
     }
     let from = (offset_in(bytes) - start) as usize;
     let to = from + size_in(bytes) as usize;
-    replay_step(bank, written, bytes, end, &held[from..to], last)
+    replay_step(bank, written, reasons, bytes, end, &held[from..to], last)
 }
 
 // Where the lines so far end, and the number of the last load.
@@ -70,6 +71,7 @@ struct Reached {
 fn replay_next(
     bank: &mut [u8],
     written: &mut [u8],
+    reasons: &mut [u8],
     input: &[u8],
     i: usize,
     end: u64,
@@ -78,17 +80,26 @@ fn replay_next(
     out: &mut [u8],
     at: Reached,
 ) -> Reached
-    requires { ⌜ (length (now bank) ≡ bankSize) × (length (now written) ≡ writtenSize) ⌝ }
+    requires { ⌜ AllLent (now bank) (now written) (now reasons) ⌝ }
     requires { ⌜ i < recordCount (now input) ⌝ }
     requires { ⌜ atHand (piece end start (now held)) (recordOf replaySize (now input) i) ≡ true ⌝ }
     requires { ⌜ at .end + replayRoom ≤ length (now out) ⌝ }
     ensures { λ r. ⌜ Replayed (piece end start (now (held .entry))) (recordOf replaySize (now (input .entry)) i)
-        (carried (now (bank .entry)) (now (written .entry)) (at .last)) (now (out .entry)) (at .end)
-        (carried (now (bank .exit)) (now (written .exit)) (r .last)) (now (out .exit)) (r .end) ⌝ }
+        (carried (now (bank .entry)) (now (written .entry)) (now (reasons .entry)) (at .last)) (now (out .entry)) (at .end)
+        (carried (now (bank .exit)) (now (written .exit)) (now (reasons .exit)) (r .last)) (now (out .exit)) (r .end) ⌝ }
 {
     let from = i * RECORD;
     let to = record_end(input, i);
-    let answer = replay_at_hand(bank, written, &input[from..to], end, start, held, at.last);
+    let answer = replay_at_hand(
+        bank,
+        written,
+        reasons,
+        &input[from..to],
+        end,
+        start,
+        held,
+        at.last,
+    );
     Reached {
         end: put_line(answer, out, at.end),
         last: answer.number,
@@ -99,6 +110,7 @@ fn replay_next(
 fn replay_ready(
     bank: &mut [u8],
     written: &mut [u8],
+    reasons: &mut [u8],
     input: &[u8],
     count: usize,
     end: u64,
@@ -107,29 +119,28 @@ fn replay_ready(
     out: &mut [u8],
     last: u32,
 ) -> Reached
-    requires { ⌜ (length (now bank) ≡ bankSize) × (length (now written) ≡ writtenSize) ⌝ }
+    requires { ⌜ AllLent (now bank) (now written) (now reasons) ⌝ }
     requires { ⌜ count ≡ ready (piece end start (now held)) (recordsIn (now input)) ⌝ }
     requires { ⌜ replayRoom * recordCount (now input) ≤ length (now out) ⌝ }
     ensures { λ r. ⌜ Run (piece end start (now (held .entry))) (firstRecords (now (input .entry)) count)
-        (carried (now (bank .entry)) (now (written .entry)) last) (now (out .entry))
-        (carried (now (bank .exit)) (now (written .exit)) (r .last)) (now (out .exit)) (r .end) ⌝ }
+        (carried (now (bank .entry)) (now (written .entry)) (now (reasons .entry)) last) (now (out .entry))
+        (carried (now (bank .exit)) (now (written .exit)) (now (reasons .exit)) (r .last)) (now (out .exit)) (r .end) ⌝ }
 {
     let mut at = Reached { end: 0, last };
     for i in 0..count {
-        at = replay_next(bank, written, input, i, end, start, held, out, at);
+        at = replay_next(bank, written, reasons, input, i, end, start, held, out, at);
     }
     at
 }
 
 // The run's first refusal: 1, then 6.
-fn run_refusal(bank: &[u8], written: &[u8], input: &[u8], out: &[u8]) -> u32
-    ensures { λ r. ⌜ r ≡ first (runTests (now (bank .entry)) (now (written .entry)) (now (input .entry)) (now (out .entry))) ⌝ }
+fn run_refusal(bank: &[u8], written: &[u8], reasons: &[u8], input: &[u8], out: &[u8]) -> u32
+    ensures { λ r. ⌜ r ≡ first (runTests (now (bank .entry)) (now (written .entry)) (now (reasons .entry)) (now (input .entry))
+        (now (out .entry))) ⌝ }
 {
-    if bank.len() != Bank::SIZE {
-        return refusal::LENGTH;
-    }
-    if written.len() != Bank::WRITTEN_SIZE {
-        return refusal::LENGTH;
+    let no = lent_refusal(bank, written, reasons);
+    if no != 0 {
+        return no;
     }
     if out.len() < LINE_ROOM * record_count(input) {
         refusal::BUFFER
@@ -145,6 +156,7 @@ fn run_refusal(bank: &[u8], written: &[u8], input: &[u8], out: &[u8]) -> u32
 pub fn replay_run(
     bank: &mut [u8],
     written: &mut [u8],
+    reasons: &mut [u8],
     input: &[u8],
     end: u64,
     start: u64,
@@ -152,11 +164,11 @@ pub fn replay_run(
     out: &mut [u8],
     last: u32,
 ) -> RunAnswer
-    ensures { λ r. ⌜ runAnswered r (now (bank .exit) ∷ now (written .exit) ∷ now (out .exit) ∷ [])
-        ≡ runCall (now (bank .entry)) (now (written .entry)) (now (input .entry)) (piece end start (now (held .entry)))
-        (now (out .entry)) last ⌝ }
+    ensures { λ r. ⌜ runAnswered r (now (bank .exit) ∷ now (written .exit) ∷ now (reasons .exit) ∷ now (out .exit) ∷ [])
+        ≡ runCall (carried (now (bank .entry)) (now (written .entry)) (now (reasons .entry)) last) (now (input .entry))
+        (piece end start (now (held .entry))) (now (out .entry)) ⌝ }
 {
-    let no = run_refusal(bank, written, input, out);
+    let no = run_refusal(bank, written, reasons, input, out);
     if no != 0 {
         return RunAnswer {
             refusal: no,
@@ -166,7 +178,18 @@ pub fn replay_run(
         };
     }
     let records = ready_count(input, end, start, held);
-    let at = replay_ready(bank, written, input, records, end, start, held, out, last);
+    let at = replay_ready(
+        bank,
+        written,
+        reasons,
+        input,
+        records,
+        end,
+        start,
+        held,
+        out,
+        last,
+    );
     RunAnswer {
         refusal: 0,
         records,

@@ -3,15 +3,15 @@ ghost use mathlib.Core.Path.{_≡_};
 ghost use mathlib.Core.List.{[], _∷_};
 ghost use Prim.Native.Nat.{_≤_};
 ghost use lib.ListN.{length};
-ghost use Rattle.rules.specs.Tile.{bankSize, writtenSize};
-ghost use Rattle.rules.specs.Calls.{numberTests, pairTests, unknownPair};
+ghost use Rattle.rules.specs.Tile.{bankSize};
+ghost use Rattle.rules.specs.Calls.{AllLent, numberTests, pairTests, unknownPair};
 ghost use Rattle.rules.specs.Key.{keptCount};
-ghost use Rattle.rules.specs.Load.{following};
+ghost use Rattle.rules.specs.Load.{following, ordinary, reasonLeft};
 ghost use Rattle.rules.specs.Refusal.{first};
 ghost use Rattle.rules.specs.Replay.{replaySize, laneIn, tileIn, modeIn, imageIn, sizeIn, storesIn, outsideIn, carried};
 ghost use Rattle.rules.specs.Replay.{stepTests, outcome};
 ghost use Rattle.rdp.specs.View.{replayAnswered};
-ghost use Rattle.tmem.specs.Part.{memory, CarriedOut};
+ghost use Rattle.tmem.specs.Part.{memory, labelOf, CarriedOut};
 use crate::fields::asked_in;
 use crate::fields::asks_key;
 use crate::fields::image_in;
@@ -25,6 +25,7 @@ use key::key::key;
 use rdp::answer::ReplayAnswer;
 use rdp::refusal;
 use tmem::load::load;
+use tmem::reason::Reason;
 
 // The kept count of the key that a record asks for. The key is cut for its count alone.
 fn kept_count(bank: &[u8], bytes: &[u8]) -> u32
@@ -51,25 +52,29 @@ fn kept_count(bank: &[u8], bytes: &[u8]) -> u32
 fn carry_out(
     bank: &mut [u8],
     written: &mut [u8],
+    reasons: &mut [u8],
     bytes: &[u8],
     src: &[u8],
     last: u32,
 ) -> ReplayAnswer
-    requires { ⌜ (length (now bank) ≡ bankSize) × (length (now written) ≡ writtenSize) ⌝ }
+    requires { ⌜ AllLent (now bank) (now written) (now reasons) ⌝ }
     requires { ⌜ replaySize ≤ length (now bytes) ⌝ }
     requires { ⌜ first (numberTests (length (now src)) (tileIn (now bytes)) (imageIn (now bytes)) (outsideIn (now bytes)) []) ≡ 0 ⌝ }
     requires { ⌜ last ≤ 65534 ⌝ }
     ensures { λ r. ⌜ (r .refusal ≡ 0) × ((r .count ≡ length (storesIn (now (bytes .entry)))) × (r .number ≡ following last)) ⌝ }
-    ensures { λ _. ⌜ CarriedOut (now (src .entry)) (storesIn (now (bytes .entry))) (following last)
-        (memory (now (bank .entry)) (now (written .entry))) (memory (now (bank .exit)) (now (written .exit))) ⌝ }
+    ensures { λ _. ⌜ CarriedOut (now (src .entry)) (storesIn (now (bytes .entry))) (labelOf (following last) (reasonLeft ordinary))
+        (memory (now (bank .entry)) (now (written .entry)) (now (reasons .entry)))
+        (memory (now (bank .exit)) (now (written .exit)) (now (reasons .exit))) ⌝ }
 {
     let done = load(
         bank,
         written,
+        reasons,
         src,
         tile_in(bytes),
         image_in(bytes),
         asked_in(bytes),
+        Reason::Ordinary,
         last,
     );
     ReplayAnswer {
@@ -98,15 +103,16 @@ fn step_refusal(bytes: &[u8], end: u64, last: u32) -> u32
 pub(crate) fn replay_step(
     bank: &mut [u8],
     written: &mut [u8],
+    reasons: &mut [u8],
     bytes: &[u8],
     end: u64,
     src: &[u8],
     last: u32,
 ) -> ReplayAnswer
-    requires { ⌜ (length (now bank) ≡ bankSize) × (length (now written) ≡ writtenSize) ⌝ }
+    requires { ⌜ AllLent (now bank) (now written) (now reasons) ⌝ }
     requires { ⌜ length (now src) ≤ sizeIn (now bytes) ⌝ }
-    ensures { λ r. ⌜ replayAnswered r (now (bank .exit) ∷ now (written .exit) ∷ [])
-        ≡ outcome end (now (src .entry)) (now (bytes .entry)) (carried (now (bank .entry)) (now (written .entry)) last) ⌝ }
+    ensures { λ r. ⌜ replayAnswered r (now (bank .exit) ∷ now (written .exit) ∷ now (reasons .exit) ∷ [])
+        ≡ outcome end (now (src .entry)) (now (bytes .entry)) (carried (now (bank .entry)) (now (written .entry)) (now (reasons .entry)) last) ⌝ }
 {
     let no = step_refusal(bytes, end, last);
     if no != 0 {
@@ -124,5 +130,5 @@ pub(crate) fn replay_step(
             number: last,
         };
     }
-    carry_out(bank, written, bytes, src, last)
+    carry_out(bank, written, reasons, bytes, src, last)
 }

@@ -7,14 +7,8 @@ use lib.ListN.{length}
 use borrow.Author.Tests.{eq-eqb, ne-eqb, eqb-true, not-false}
 use Rattle.rules.specs.Tile.{bankSize, writtenSize, reasonsSize}
 use Rattle.rules.specs.Refusal.{Test, _if_, first}
-use Rattle.rules.specs.Calls.{notBytes, lentTests}
+use Rattle.rules.specs.Calls.{notBytes, lentTests, AllLent}
 use Rattle.rules.proofs.Refused.{first-zero}
-
--- the three have their lengths
-pub record AllLent (bank map reasons : List ℕ) : Type 0 where
-  pub whole-bank : length bank ≡ bankSize
-  pub whole-map : length map ≡ writtenSize
-  pub whole-reasons : length reasons ≡ reasonsSize
 
 module _ (bank map reasons : List ℕ) (l : List Test) where
   pub short-bank : (length bank ≡ bankSize → ⊥) → 1 ≡ first (lentTests bank map reasons l)

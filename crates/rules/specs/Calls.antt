@@ -1,4 +1,5 @@
 -- Every public call, on every input: its refusals in order, its answer, and the lent buffers as it leaves them.
+use mathlib.Core.Path.{_≡_}
 use mathlib.Core.Bool.{Bool, not, _||_}
 use mathlib.Core.List.{List, [], _∷_}
 use Prim.Native.Nat.{ℕ, _*_, _/_}
@@ -62,6 +63,12 @@ unknownPair t mode = 9 if not (stepKnows mode (t .fmt) (t .siz))
 abbrev pub lentTests : List ℕ → List ℕ → List ℕ → List Test → List Test
 lentTests bank map reasons l =
     (1 if notBytes bankSize bank) ∷ (1 if notBytes writtenSize map) ∷ (1 if notBytes reasonsSize reasons) ∷ l
+
+-- the three have their lengths
+pub record AllLent (bank map reasons : List ℕ) : Type 0 where
+  pub whole-bank : length bank ≡ bankSize
+  pub whole-map : length map ≡ writtenSize
+  pub whole-reasons : length reasons ≡ reasonsSize
 
 -- "18, the 65,536th load (any number passed above 65,534), tested last"
 abbrev pub numberSpent : ℕ → Bool

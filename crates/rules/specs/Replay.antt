@@ -248,8 +248,8 @@ replayRoom = 22
 abbrev pub shortText : List ℕ → List ℕ → Test
 shortText input out = 6 if ltb (length out) (replayRoom * recordCount input)
 
-abbrev pub runTests : Carried → List ℕ → List ℕ → List Test
-runTests m input out = lentTests (m .bank) (m .map) (m .reasons) (shortText input out ∷ [])
+abbrev pub runTests : List ℕ → List ℕ → List ℕ → List ℕ → List ℕ → List Test
+runTests bank map reasons input out = lentTests bank map reasons (shortText input out ∷ [])
 
 -- The run replays the records that are ready. How many they are, the length of their text and the last load's number are answered; bank,
 -- map and reasons are left as they stand then, and the text at the front of `out`. A refusal "hands back the number passed".
@@ -259,7 +259,7 @@ runCall m input p out =
     let l : List (List ℕ) = firstRecords input n in
     let text : List ℕ = texts (lines (inPiece p) l m) in
     let m′ : Carried = replayed (inPiece p) l m in
-    callOr (runTests m input out)
+    callOr (runTests (m .bank) (m .map) (m .reasons) input out)
     (n ∷ length text ∷ m′ .last ∷ [])
     (0 ∷ 0 ∷ m .last ∷ [])
     (m′ .bank ∷ m′ .map ∷ m′ .reasons ∷ over text out ∷ [])

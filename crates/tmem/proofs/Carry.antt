@@ -43,9 +43,12 @@ module _ {src : List ℕ} {label : Label} {m : Memory} where
   still-lent : {l : List Store} {m′ : Memory} → Lent m label → CarriedOut src l label m m′ → Lent m′ label
   still-lent {l} w p =
       record {
-        whole-bank = rw (p .bank-is, length-stored) (w .whole-bank);
-        whole-map = rw (p .map-is, length-written) (w .whole-map);
-        whole-reasons = rw (p .reasons-is, length-reasoned) (w .whole-reasons);
+        whole =
+            record {
+              whole-bank = rw (p .bank-is, length-stored) (w .whole .whole-bank);
+              whole-map = rw (p .map-is, length-written) (w .whole .whole-map);
+              whole-reasons = rw (p .reasons-is, length-reasoned) (w .whole .whole-reasons);
+            };
         number-in = w .number-in;
       }
 

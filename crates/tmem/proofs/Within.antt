@@ -33,13 +33,7 @@ within bank map reasons src t image outside why last h =
     let q = lent-passed bank map reasons own h in
     let p = passed own (numbered own refl) (q .1) in
     record {
-      lent =
-          record {
-            whole-bank = q .0 .whole-bank;
-            whole-map = q .0 .whole-map;
-            whole-reasons = q .0 .whole-reasons;
-            number-in = omega (arith, ltb-false 65534 last (p .1 .1 .1 .1 .0));
-          };
+      lent = record { whole = q .0; number-in = omega (arith, ltb-false 65534 last (p .1 .1 .1 .1 .0)) };
       image-in = ltb-false 3 image (neither (ltb 65536 (length src)) (ltb 3 image) (p .1 .0) .1);
       inside = p .1 .1 .0;
       reason-in = p .1 .1 .1 .0;

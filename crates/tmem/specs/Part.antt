@@ -7,7 +7,7 @@ use Prim.Native.Nat.{ℕ, _+_, _-_, _*_, _/_, _%_, _^_, _<_, _≤_}
 use lib.Dec.{eqb}
 use lib.ListN.{length, getD}
 use Rattle.rules.specs.Base.{tab}
-use Rattle.rules.specs.Tile.{bankSize, writtenSize, reasonsSize}
+use Rattle.rules.specs.Calls.{AllLent}
 use Rattle.rules.specs.Load.{Store, store, LoadTile, stored, written, reasoned, madeUp, wordMadeUp}
 use Rattle.tmem.specs.declared.label.Label.{Label}
 use Rattle.tmem.specs.declared.place.LoadTile.{LoadTile as Declared}
@@ -33,9 +33,7 @@ labelOf number reason = record { number = number; reason = reason }
 
 -- the buffers have their lengths, and a load's number has two bytes
 pub record Lent (m : Memory) (label : Label) : Type 0 where
-  pub whole-bank : length (m .bank) ≡ bankSize
-  pub whole-map : length (m .map) ≡ writtenSize
-  pub whole-reasons : length (m .reasons) ≡ reasonsSize
+  pub whole : AllLent (m .bank) (m .map) (m .reasons)
   pub number-in : label .number < 65536
 
 -- the source place of a word's byte k; "Each source offset is taken mod 2" where one pair fills all lanes

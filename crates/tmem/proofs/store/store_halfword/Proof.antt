@@ -42,7 +42,7 @@ part-mark-in-end c = search needs
 mark-in-requires : tie.Need-mark-in-requires
 mark-in-requires c κs =
     let s = c .before .before .before .before in
-    (simp (length-take, length-drop) (omega (arith, s .pre .0 .whole-map, s .pre .1)), s .pre .0 .number-in)
+    (simp (length-take, length-drop) (omega (arith, s .pre .0 .whole .whole-map, s .pre .1)), s .pre .0 .number-in)
 
 same-length : tie.Need-same-length
 same-length c = search needs
