@@ -13,7 +13,7 @@ use Rattle.replaying.proofs.run.replay_next.Statement.{statement}
 use Rattle.replaying.proofs.run.replay_next.Tie as tie
 
 abbrev start : tie.After-record-end → tie.Start
-start e = e .before .before .before .before .before .before
+start e = e .before .before .before .before .before .before .before
 
 -- the part of the input is record i
 own : (e : tie.After-record-end) → let a = start e .args in
@@ -40,7 +40,7 @@ part-replay-at-hand-end c = search needs
 
 replay-at-hand-requires : tie.Need-replay-at-hand-requires
 replay-at-hand-requires c κs =
-    let e = c .before .before .before in
+    let e = c .before .before .before .before in
     let s = start e in
     let p = piece (s .args .end) (s .args .start) (s .args .held .now) in
     (s .pre .0, ap (atHand p) (own e) ∙ s .pre .1 .1 .0)
@@ -57,14 +57,17 @@ same-length-2 c = search needs
 same-length-3 : tie.Need-same-length-3
 same-length-3 c = search needs
 
+same-length-4 : tie.Need-same-length-4
+same-length-4 c = search needs
+
 returns : tie.Need-returns
 returns c =
     let w = c .before .before in
-    let d = w .before .before .before .before .before .before in
-    let e = d .before .before .before .before in
+    let d = w .before .before .before .before .before .before .before .before in
+    let e = d .before .before .before .before .before in
     let a = start e .args in
     let p = piece (a .end) (a .start) (a .held .now) in
-    let m = carried (a .bank .now) (a .written .now) (a .at .last) in
+    let m = carried (a .bank .now) (a .written .now) (a .reasons .now) (a .at .last) in
     let o = d .replay-at-hand .ensures ∙ ap (λ r. inPiece p r m) (own e) in
     let t = w .put-line .ensures in
     record {
@@ -88,4 +91,5 @@ replay-next-spec =
     same-length
     same-length-2
     same-length-3
+    same-length-4
     returns)

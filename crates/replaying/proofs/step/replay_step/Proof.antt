@@ -2,7 +2,7 @@
 use mathlib.Core.Path.{_≡_, sym, _∙_}
 use mathlib.Core.List.{[], _∷_}
 use Rattle.rules.specs.Refusal.{first}
-use Rattle.rules.specs.Replay.{tileIn, imageIn, sizeIn, outsideIn, beyond, recordTests, tested, stepTests, outcome}
+use Rattle.rules.specs.Replay.{tileIn, imageIn, sizeIn, outsideIn, beyond, recordTests, Carried, carried, tested, stepTests, outcome}
 use Rattle.rules.proofs.Refused.{refused-or-is}
 use Rattle.rules.proofs.ReplayTests.{step-passed, number-left, whole, key-passes, load-passes, key-done, load-done}
 use Rattle.rules.proofs.ReplayTests.{shorter-source}
@@ -11,7 +11,11 @@ use Rattle.replaying.proofs.step.replay_step.Statement.{statement}
 use Rattle.replaying.proofs.step.replay_step.Tie as tie
 
 abbrev start : tie.Else1 → tie.Start
-start e = e .before .before .before .before .before .before
+start e = e .before .before .before .before .before .before .before
+
+-- what is carried
+abbrev held : tie.Else1 → Carried
+held e = let a = start e .args in carried (a .bank .now) (a .written .now) (a .reasons .now) (a .last)
 
 -- no test of the record failed
 passed : (e : tie.Else1) → let a = start e .args in first (stepTests (a .end) (a .bytes .now) (a .last)) ≡ 0
@@ -35,7 +39,7 @@ kept-count-requires c κs =
     let k = c .before .before in
     let s = start (k .before) in
     let a = s .args in (
-      s .pre .0 .0,
+      s .pre .0 .whole-bank,
       (
         whole (a .end) (a .bytes .now) (accepted (k .before)),
         key-passes (a .end) (a .bytes .now) (accepted (k .before)) (sym (k .asks-key .ensures) ∙ c .before .if2 .taken),
@@ -50,12 +54,12 @@ returns-2 c =
     let t = c .before .before in
     let k = t .before in
     let a = start (k .before) .args in
-    key-done (a .end) (a .bytes .now) (a .src .now) (a .bank .now) (a .written .now) (a .last) (passed (k .before)) _
+    key-done (a .end) (a .bytes .now) (a .src .now) (held (k .before)) (passed (k .before)) _
     (sym (k .asks-key .ensures) ∙ t .if2 .taken) (c .kept-count .ensures)
 
 carry-out-requires : tie.Need-carry-out-requires
 carry-out-requires c κs =
-    let e = c .before .before in
+    let e = c .before .before .before in
     let k = e .before in
     let s = start (k .before) in
     let a = s .args in
@@ -78,17 +82,20 @@ same-length-2 c = search needs
 same-length-3 : tie.Need-same-length-3
 same-length-3 c = search needs
 
+same-length-4 : tie.Need-same-length-4
+same-length-4 c = search needs
+
 returns-3 : tie.Need-returns-3
 returns-3 c =
-    let d = c .before .before .before .before in
-    let e = d .before .before .before in
+    let d = c .before .before .before .before .before .before in
+    let e = d .before .before .before .before in
     let k = e .before in
     let a = start (k .before) .args in
     let done = d .carry-out .ensures in
     let answer = done .0 in
     rw (answer .0, answer .1 .1)
-    (load-done (a .end) (a .bytes .now) (a .src .now) (a .bank .now) (a .written .now) (a .last) (passed (k .before)) _ _ _
-    (sym (k .asks-key .ensures) ∙ e .if2 .left) (answer .1 .0) (done .1 .bank-is) (done .1 .map-is))
+    (load-done (a .end) (a .bytes .now) (a .src .now) (held (k .before)) (passed (k .before)) _ _ _ _
+    (sym (k .asks-key .ensures) ∙ e .if2 .left) (answer .1 .0) (done .1 .bank-is) (done .1 .map-is) (done .1 .reasons-is))
 
 pub replay-step-spec : {M : Type 1} → statement M
 replay-step-spec =
@@ -103,4 +110,5 @@ replay-step-spec =
     carry-out-requires
     same-length-2
     same-length-3
+    same-length-4
     returns-3)
