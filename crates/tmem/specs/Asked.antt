@@ -6,6 +6,7 @@ use Rattle.rules.specs.Tile.{Tile}
 use Rattle.rules.specs.Refusal.{Outcome}
 use Rattle.rules.specs.Load.{Store, LoadTile, loadTile, blockStores, tileStores, tlutStores, Reason}
 use Rattle.rules.specs.Calls.{blockOutside, tileLoadOutside, tlutOutside, loadTests, loaded}
+use Rattle.rdp.specs.declared.answer.LoadAnswer.{LoadAnswer}
 use Rattle.tmem.specs.declared.asked.Asked.{Asked}
 use Rattle.tmem.specs.declared.asked.Asked.the-variants.{Block, Tile as TileLoad, Tlut}
 
@@ -20,6 +21,10 @@ abbrev pub askedStores : LoadTile → ℕ → Asked → List Store
 askedStores t image (Block dxt words) = blockStores t image dxt words
 askedStores t image (TileLoad rows words stride) = tileStores t image rows words stride
 askedStores t image (Tlut count rows stride) = tlutStores t image count rows stride
+
+-- the answer of one that is refused
+abbrev pub refusedLoad : ℕ → ℕ → LoadAnswer
+refusedLoad refusal last = record { refusal = refusal; count = 0; «made_up» = 0; number = last }
 
 -- the call
 abbrev pub askedCall : List ℕ → List ℕ → List ℕ → List ℕ → Tile → ℕ → Asked → Reason → ℕ → Outcome

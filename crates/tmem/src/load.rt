@@ -4,7 +4,7 @@ ghost use mathlib.Core.List.{[], _∷_};
 ghost use Rattle.rules.specs.Refusal.{first};
 ghost use Rattle.rules.specs.Calls.{lentTests, numberSpent, numberTests, loadTests, blockCall, tileCall, tlutCall};
 ghost use Rattle.rdp.specs.View.{tileOf, loadAnswered};
-ghost use Rattle.tmem.specs.Asked.{askedOutside, askedCall};
+ghost use Rattle.tmem.specs.Asked.{askedOutside, askedCall, refusedLoad};
 ghost use Rattle.tmem.specs.Reasons.{reasonOf};
 use crate::asked::Asked;
 use crate::bank::Bank;
@@ -86,6 +86,18 @@ fn load_refusal(
     refuse(refusal::REASON, reason.outside(), spent)
 }
 
+// The answer of a load that is refused: nothing is counted, and the number passed is handed back.
+fn refused_load(refusal: u32, last: u32) -> LoadAnswer
+    ensures { λ r. ⌜ r ≡ refusedLoad refusal last ⌝ }
+{
+    LoadAnswer {
+        refusal,
+        count: 0,
+        made_up: 0,
+        number: last,
+    }
+}
+
 // Every load, ordinary or rejected, after the one whose number is `last`: it refuses, or carries out what is asked, and answers.
 pub fn load(
     bank: &mut [u8],
@@ -114,12 +126,7 @@ pub fn load(
         last,
     );
     if no != 0 {
-        return LoadAnswer {
-            refusal: no,
-            count: 0,
-            made_up: 0,
-            number: last,
-        };
+        return refused_load(no, last);
     }
     let number = last + 1;
     let label = Label {

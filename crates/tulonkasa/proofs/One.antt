@@ -3,7 +3,7 @@ use mathlib.Core.Path.{_≡_}
 use mathlib.Core.List.{[], _∷_}
 use denote.Ref.{now}
 use Rattle.rdp.proofs.Determined.{answered-determined, load-determined, size-determined, refusal-determined, sampling-determined}
-use Rattle.rdp.proofs.Determined.{replay-determined, split-determined, yes-determined}
+use Rattle.rdp.proofs.Determined.{reason-determined, replay-determined, split-determined, yes-determined}
 use Rattle.tulonkasa.proofs.files.tk_write_pam.Reads as tk-write-pam
 use Rattle.tulonkasa.proofs.files.tk_read_pam.Reads as tk-read-pam
 use Rattle.tulonkasa.proofs.keys.tk_key.Reads as tk-key
@@ -12,11 +12,15 @@ use Rattle.tulonkasa.proofs.loads.tk_load_tile.Reads as tk-load-tile
 use Rattle.tulonkasa.proofs.loads.tk_load_tlut.Reads as tk-load-tlut
 use Rattle.tulonkasa.proofs.maps.tk_reach.Reads as tk-reach
 use Rattle.tulonkasa.proofs.maps.tk_tile_has_load.Reads as tk-tile-has-load
+use Rattle.tulonkasa.proofs.maps.tk_rejection.Reads as tk-rejection
 use Rattle.tulonkasa.proofs.maps.tk_palette_nonreplicated.Reads as tk-palette-nonreplicated
 use Rattle.tulonkasa.proofs.pictures.tk_sample_tile.Reads as tk-sample-tile
 use Rattle.tulonkasa.proofs.pictures.tk_sample_tile_observed.Reads as tk-sample-tile-observed
 use Rattle.tulonkasa.proofs.pictures.tk_sampling_lookup.Reads as tk-sampling-lookup
 use Rattle.tulonkasa.proofs.pictures.tk_sampling_lookup_observed.Reads as tk-sampling-lookup-observed
+use Rattle.tulonkasa.proofs.rejects.tk_reject_block.Reads as tk-reject-block
+use Rattle.tulonkasa.proofs.rejects.tk_reject_tile.Reads as tk-reject-tile
+use Rattle.tulonkasa.proofs.rejects.tk_reject_tlut.Reads as tk-reject-tlut
 use Rattle.tulonkasa.proofs.replay.tk_replay_record.Reads as tk-replay-record
 use Rattle.tulonkasa.proofs.sampling.tk_sampling.Reads as tk-sampling
 use Rattle.tulonkasa.proofs.splits.tk_split.Reads as tk-split
@@ -34,15 +38,15 @@ pub tk-key-one : (w : _) (a : _) (r s : _) (e f : _) → tk-key.Post w a r e →
 tk-key-one w a r s e f p q = answered-determined _ r s _ _ p q
 
 pub tk-load-block-one : (w : _) (a : _) (r s : _) (e f : _) → tk-load-block.Post w a r e → tk-load-block.Post w a s f
-    → (r ≡ s) × (now (e .0) ∷ now (e .1 .0) ∷ [] ≡ now (f .0) ∷ now (f .1 .0) ∷ [])
+    → (r ≡ s) × (now (e .0) ∷ now (e .1 .0) ∷ now (e .1 .1 .0) ∷ [] ≡ now (f .0) ∷ now (f .1 .0) ∷ now (f .1 .1 .0) ∷ [])
 tk-load-block-one w a r s e f p q = load-determined _ r s _ _ p q
 
 pub tk-load-tile-one : (w : _) (a : _) (r s : _) (e f : _) → tk-load-tile.Post w a r e → tk-load-tile.Post w a s f
-    → (r ≡ s) × (now (e .0) ∷ now (e .1 .0) ∷ [] ≡ now (f .0) ∷ now (f .1 .0) ∷ [])
+    → (r ≡ s) × (now (e .0) ∷ now (e .1 .0) ∷ now (e .1 .1 .0) ∷ [] ≡ now (f .0) ∷ now (f .1 .0) ∷ now (f .1 .1 .0) ∷ [])
 tk-load-tile-one w a r s e f p q = load-determined _ r s _ _ p q
 
 pub tk-load-tlut-one : (w : _) (a : _) (r s : _) (e f : _) → tk-load-tlut.Post w a r e → tk-load-tlut.Post w a s f
-    → (r ≡ s) × (now (e .0) ∷ now (e .1 .0) ∷ [] ≡ now (f .0) ∷ now (f .1 .0) ∷ [])
+    → (r ≡ s) × (now (e .0) ∷ now (e .1 .0) ∷ now (e .1 .1 .0) ∷ [] ≡ now (f .0) ∷ now (f .1 .0) ∷ now (f .1 .1 .0) ∷ [])
 tk-load-tlut-one w a r s e f p q = load-determined _ r s _ _ p q
 
 pub tk-reach-one : (w : _) (a : _) (r s : _) (e f : _) → tk-reach.Post w a r e → tk-reach.Post w a s f
@@ -51,6 +55,9 @@ tk-reach-one w a r s e f p q = refusal-determined _ r s _ _ p q
 
 pub tk-tile-has-load-one : (w : _) (a : _) (r s : _) (e f : _) → tk-tile-has-load.Post w a r e → tk-tile-has-load.Post w a s f → r ≡ s
 tk-tile-has-load-one w a r s e f p q = yes-determined _ r s p q
+
+pub tk-rejection-one : (w : _) (a : _) (r s : _) (e f : _) → tk-rejection.Post w a r e → tk-rejection.Post w a s f → r ≡ s
+tk-rejection-one w a r s e f p q = reason-determined _ r s p q
 
 pub tk-palette-nonreplicated-one : (w : _) (a : _) (r s : _) (e f : _) → tk-palette-nonreplicated.Post w a r e
     → tk-palette-nonreplicated.Post w a s f
@@ -82,8 +89,20 @@ tk-sampling-lookup-observed-one w a r s e f p q = answered-determined _ r s _ _ 
 pub tk-sampling-one : (w : _) (a : _) (r s : _) (e f : _) → tk-sampling.Post w a r e → tk-sampling.Post w a s f → r ≡ s
 tk-sampling-one w a r s e f p q = sampling-determined _ r s p q
 
+pub tk-reject-block-one : (w : _) (a : _) (r s : _) (e f : _) → tk-reject-block.Post w a r e → tk-reject-block.Post w a s f
+    → (r ≡ s) × (now (e .0) ∷ now (e .1 .0) ∷ now (e .1 .1 .0) ∷ [] ≡ now (f .0) ∷ now (f .1 .0) ∷ now (f .1 .1 .0) ∷ [])
+tk-reject-block-one w a r s e f p q = load-determined _ r s _ _ p q
+
+pub tk-reject-tile-one : (w : _) (a : _) (r s : _) (e f : _) → tk-reject-tile.Post w a r e → tk-reject-tile.Post w a s f
+    → (r ≡ s) × (now (e .0) ∷ now (e .1 .0) ∷ now (e .1 .1 .0) ∷ [] ≡ now (f .0) ∷ now (f .1 .0) ∷ now (f .1 .1 .0) ∷ [])
+tk-reject-tile-one w a r s e f p q = load-determined _ r s _ _ p q
+
+pub tk-reject-tlut-one : (w : _) (a : _) (r s : _) (e f : _) → tk-reject-tlut.Post w a r e → tk-reject-tlut.Post w a s f
+    → (r ≡ s) × (now (e .0) ∷ now (e .1 .0) ∷ now (e .1 .1 .0) ∷ [] ≡ now (f .0) ∷ now (f .1 .0) ∷ now (f .1 .1 .0) ∷ [])
+tk-reject-tlut-one w a r s e f p q = load-determined _ r s _ _ p q
+
 pub tk-replay-record-one : (w : _) (a : _) (r s : _) (e f : _) → tk-replay-record.Post w a r e → tk-replay-record.Post w a s f
-    → (r ≡ s) × (now (e .0) ∷ now (e .1 .0) ∷ [] ≡ now (f .0) ∷ now (f .1 .0) ∷ [])
+    → (r ≡ s) × (now (e .0) ∷ now (e .1 .0) ∷ now (e .1 .1 .0) ∷ [] ≡ now (f .0) ∷ now (f .1 .0) ∷ now (f .1 .1 .0) ∷ [])
 tk-replay-record-one w a r s e f p q = replay-determined _ r s _ _ p q
 
 pub tk-split-one : (w : _) (a : _) (r s : _) (e f : _) → tk-split.Post w a r e → tk-split.Post w a s f

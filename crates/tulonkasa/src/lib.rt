@@ -5,6 +5,7 @@ pub mod keys;
 pub mod loads;
 pub mod maps;
 pub mod pictures;
+pub mod rejects;
 pub mod replay;
 pub mod sampling;
 pub mod splits;

@@ -1,11 +1,13 @@
-// The loads: block, tile and lookup table.
+// The ordinary loads: block, tile and lookup table. Each clears the reasons where it stores.
 ghost use mathlib.Core.Path.{_≡_};
 ghost use mathlib.Core.List.{[], _∷_};
 ghost use Rattle.rules.specs.Calls.{blockCall, tileCall, tlutCall};
+ghost use Rattle.rules.specs.Load.{ordinary};
 ghost use Rattle.rdp.specs.View.{loadAnswered};
 ghost use Rattle.rules.specs.Tile.{loadTileFrom};
 use crate::tile::load_tile_from;
 use rdp::answer::LoadAnswer;
+use tmem::reason::Reason;
 
 // A block load, after a load of the number `last`. The count of stores is answered, how many of their bytes came from past the source's
 // end, and the load's number; where it is refused, zeros and the number passed.
@@ -13,6 +15,7 @@ use rdp::answer::LoadAnswer;
 pub extern "C" fn tk_load_block(
     bank: &mut [u8],
     written: &mut [u8],
+    reasons: &mut [u8],
     source: &[u8],
     fmt: u32,
     siz: u32,
@@ -23,12 +26,23 @@ pub extern "C" fn tk_load_block(
     words: u32,
     last: u32,
 ) -> LoadAnswer
-    ensures { λ r. ⌜ loadAnswered r (now (bank .exit) ∷ now (written .exit) ∷ [])
-        ≡ blockCall (now (bank .entry)) (now (written .entry)) (now (source .entry))
-        (loadTileFrom fmt siz line «tmem_addr») «image_siz» dxt words last ⌝ }
+    ensures { λ r. ⌜ loadAnswered r (now (bank .exit) ∷ now (written .exit) ∷ now (reasons .exit) ∷ [])
+        ≡ blockCall (now (bank .entry)) (now (written .entry)) (now (reasons .entry)) (now (source .entry))
+        (loadTileFrom fmt siz line «tmem_addr») «image_siz» dxt words ordinary last ⌝ }
 {
     let tile = load_tile_from(fmt, siz, line, tmem_addr);
-    tmem::load::write_block_for_tile(bank, written, source, tile, image_siz, dxt, words, last)
+    tmem::load::write_block_for_tile(
+        bank,
+        written,
+        reasons,
+        source,
+        tile,
+        image_siz,
+        dxt,
+        words,
+        Reason::Ordinary,
+        last,
+    )
 }
 
 // A tile load.
@@ -36,6 +50,7 @@ pub extern "C" fn tk_load_block(
 pub extern "C" fn tk_load_tile(
     bank: &mut [u8],
     written: &mut [u8],
+    reasons: &mut [u8],
     source: &[u8],
     fmt: u32,
     siz: u32,
@@ -47,20 +62,22 @@ pub extern "C" fn tk_load_tile(
     stride: u32,
     last: u32,
 ) -> LoadAnswer
-    ensures { λ r. ⌜ loadAnswered r (now (bank .exit) ∷ now (written .exit) ∷ [])
-        ≡ tileCall (now (bank .entry)) (now (written .entry)) (now (source .entry))
-        (loadTileFrom fmt siz line «tmem_addr») «image_siz» rows words stride last ⌝ }
+    ensures { λ r. ⌜ loadAnswered r (now (bank .exit) ∷ now (written .exit) ∷ now (reasons .exit) ∷ [])
+        ≡ tileCall (now (bank .entry)) (now (written .entry)) (now (reasons .entry)) (now (source .entry))
+        (loadTileFrom fmt siz line «tmem_addr») «image_siz» rows words stride ordinary last ⌝ }
 {
     let tile = load_tile_from(fmt, siz, line, tmem_addr);
     tmem::load::write_tile_for_tile(
         bank,
         written,
+        reasons,
         source,
         tile,
         image_siz,
         rows,
         words,
         stride,
+        Reason::Ordinary,
         last,
     )
 }
@@ -70,6 +87,7 @@ pub extern "C" fn tk_load_tile(
 pub extern "C" fn tk_load_tlut(
     bank: &mut [u8],
     written: &mut [u8],
+    reasons: &mut [u8],
     source: &[u8],
     fmt: u32,
     siz: u32,
@@ -81,20 +99,22 @@ pub extern "C" fn tk_load_tlut(
     stride: u32,
     last: u32,
 ) -> LoadAnswer
-    ensures { λ r. ⌜ loadAnswered r (now (bank .exit) ∷ now (written .exit) ∷ [])
-        ≡ tlutCall (now (bank .entry)) (now (written .entry)) (now (source .entry))
-        (loadTileFrom fmt siz line «tmem_addr») «image_siz» count rows stride last ⌝ }
+    ensures { λ r. ⌜ loadAnswered r (now (bank .exit) ∷ now (written .exit) ∷ now (reasons .exit) ∷ [])
+        ≡ tlutCall (now (bank .entry)) (now (written .entry)) (now (reasons .entry)) (now (source .entry))
+        (loadTileFrom fmt siz line «tmem_addr») «image_siz» count rows stride ordinary last ⌝ }
 {
     let tile = load_tile_from(fmt, siz, line, tmem_addr);
     tmem::load::write_tlut_for_tile(
         bank,
         written,
+        reasons,
         source,
         tile,
         image_siz,
         count,
         rows,
         stride,
+        Reason::Ordinary,
         last,
     )
 }

@@ -1,10 +1,11 @@
-// The calls on maps: reach, has-load and the lane check.
+// The calls on maps: reach, has-load, the question for a reason, and the lane check.
 ghost use mathlib.Core.Path.{_≡_};
 ghost use mathlib.Core.List.{[], _∷_};
-ghost use Rattle.rules.specs.Calls.{reachCall, hasLoadCall, laneCall};
-ghost use Rattle.rdp.specs.View.{yesAnswered, refusalAnswered};
+ghost use Rattle.rules.specs.Calls.{reachCall, hasLoadCall, rejectionCall, laneCall};
+ghost use Rattle.rdp.specs.View.{yesAnswered, reasonAnswered, refusalAnswered};
 ghost use Rattle.rules.specs.Tile.{tileFrom};
 use crate::tile::tile_from;
+use rdp::answer::ReasonAnswer;
 use rdp::answer::YesAnswer;
 
 // The addresses that a tile can reach, as a map; the refusal is answered.
@@ -77,6 +78,42 @@ pub extern "C" fn tk_tile_has_load(
         height,
     );
     reach::has_load::tile_has_load(tile, mode, written)
+}
+
+// The first reason among the bytes that the tile reaches, then, in modes 2 and 3, of its palette; 0 is none.
+#[no_mangle]
+pub extern "C" fn tk_rejection(
+    fmt: u32,
+    siz: u32,
+    palette: u32,
+    mode: u32,
+    cms: u32,
+    cmt: u32,
+    masks: u32,
+    maskt: u32,
+    line: u32,
+    tmem_addr: u32,
+    width: u32,
+    height: u32,
+    reasons: &[u8],
+) -> ReasonAnswer
+    ensures { λ r. ⌜ reasonAnswered r
+        ≡ rejectionCall (tileFrom fmt siz palette cms cmt masks maskt line «tmem_addr» width height) mode (now (reasons .entry)) ⌝ }
+{
+    let tile = tile_from(
+        fmt,
+        siz,
+        palette,
+        cms,
+        cmt,
+        masks,
+        maskt,
+        line,
+        tmem_addr,
+        width,
+        height,
+    );
+    reach::rejection::rejection(tile, mode, reasons)
 }
 
 // The palette slots whose lanes differ, as a map; the refusal is answered.

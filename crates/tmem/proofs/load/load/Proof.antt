@@ -24,8 +24,13 @@ same-length-2 c = search needs
 same-length-3 : tie.Need-same-length-3
 same-length-3 c = search needs
 
+refused-load-requires : tie.Need-refused-load-requires
+refused-load-requires c κs = search needs
+
 returns : tie.Need-returns
-returns c = refused-or-is _ _ _ _ _ _ (c .before .load-refusal .ensures) (c .if1 .taken)
+returns c =
+    let t = c .before in
+    rw (c .refused-load .ensures) (refused-or-is _ _ _ _ _ _ (t .before .load-refusal .ensures) (t .if1 .taken))
 
 -- no test failed
 passes : (c : tie.Else1) → let a = c .before .before .before .before .before .before .before .before .before .args in
@@ -81,6 +86,7 @@ load-spec =
     tie.close
     (tie.spec
     load-refusal-requires
+    refused-load-requires
     same-length
     same-length-2
     same-length-3

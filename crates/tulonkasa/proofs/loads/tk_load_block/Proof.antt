@@ -15,10 +15,13 @@ same-length c = search needs
 same-length-2 : tie.Need-same-length-2
 same-length-2 c = search needs
 
+same-length-3 : tie.Need-same-length-3
+same-length-3 c = search needs
+
 returns : tie.Need-returns
 returns c =
-    let k = c .before .before .before .before in
-    rw (← k .before .before .before .load-tile-from .ensures) (k .write-block-for-tile .ensures)
+    let k = c .before .before .before .before .before .before in
+    rw (← k .before .before .before .before .load-tile-from .ensures) (k .write-block-for-tile .ensures)
 
 pub tk-load-block-spec : {M : Type 1} → statement M
 tk-load-block-spec =
@@ -28,4 +31,5 @@ tk-load-block-spec =
     write-block-for-tile-requires
     same-length
     same-length-2
+    same-length-3
     returns)
