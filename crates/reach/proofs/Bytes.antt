@@ -14,7 +14,7 @@ use borrow.Author.Tests.{eq-eqb, ne-eqb, lt-ltb, le-ltb}
 use Rattle.rules.specs.Base.{one, marked, numberAt, isWritten}
 use Rattle.rules.proofs.Bits.{more-bits, ones}
 use Rattle.rules.proofs.Computed.{agree-below}
-use Rattle.reach.specs.Words.{ors, joined, markBit, wordMarks, wordBytes, meets, lowWords, wordMeets}
+use Rattle.reach.specs.Words.{ors, joined, markBit, wordMarks, eightBytes, wordBytes, meets, lowWords, wordMeets}
 use Rattle.reach.proofs.Differ.{differ, are-apart}
 
 -- one bit, shifted inside a width, is a power of two
@@ -126,13 +126,31 @@ unfolding ors
 zero-ors zero f e = refl
 zero-ors (suc n) f e = rw (zero-ors n f (λ k h. e k (omega arith)), e n (omega arith))
 
+-- one of eight bytes that are zero in one
+pub zero-byte : (m : List ℕ) (from k : ℕ) → eightBytes m from ≡ 0 → k < 8 → getD m (from + k) 0 ≡ 0
+unfolding eightBytes
+zero-byte m from k e h = ors-zero 8 (λ k. getD m (from + k) 0) e k h
+
+-- where two numbers are zero in one, both are
+pub or-zero : (x y : ℕ) → bitOr x y ≡ 0 → (x ≡ 0) × (y ≡ 0)
+or-zero x y e = (omega (arith, e, or-add-and x y, and-le-l x y, and-le-r x y), omega (arith, e, or-add-and x y, and-le-l x y, and-le-r x y))
+
 -- a word whose bytes are zero has no marks
 pub blank-word : (m : List ℕ) (w : ℕ) → wordBytes m w ≡ 0 → 0 ≡ wordMarks m w
 unfolding wordBytes wordMarks isWritten numberAt
 blank-word m w e = sym (zero-ors 8 (markBit m w) none)
   where
-    byte : (k : ℕ) → k < 16 → getD m (16 * w + k) 0 ≡ 0
-    byte = ors-zero 16 (λ k. getD m (16 * w + k) 0) e
+    zeros : (eightBytes m (16 * w) ≡ 0) × (eightBytes m (16 * w + 8) ≡ 0)
+    zeros = or-zero (eightBytes m (16 * w)) (eightBytes m (16 * w + 8)) e
+
+    byte : (j : ℕ) → j < 16 → getD m (16 * w + j) 0 ≡ 0
+    byte j h = go (decLt j 8)
+      where
+        go : Dec (j < 8) → getD m (16 * w + j) 0 ≡ 0
+        go (yes q) = zero-byte m (16 * w) j (zeros .0) q
+        go (no q) =
+            let at : 16 * w + j ≡ (16 * w + 8) + (j - 8) = omega (arith, q) in
+            rw at (zero-byte m (16 * w + 8) (j - 8) (zeros .1) (omega arith))
 
     none : (k : ℕ) → k < 8 → markBit m w k ≡ 0
     none k h =

@@ -1,6 +1,6 @@
 -- Laws of lists that a loop joins: each turn marks or searches one list more.
 use mathlib.Core.Path.{_≡_, refl, ap, sym, _∙_}
-use mathlib.Core.Bool.{Bool, true, false, _||_, true≢false}
+use mathlib.Core.Bool.{Bool, true, false, _||_}
 use mathlib.Core.List.{List, [], _∷_, _++_}
 use Prim.Native.Nat.{ℕ, zero, suc, _+_, _-_, _<_}
 use native.Mathlib.Numerals.{add-one}
@@ -39,15 +39,16 @@ module _ {A R : Type 0} {F : List A → R} {none : R} (s : Search F none) (f : �
   none-all (suc n) e = rw (← add-one n) (none-more n (none-all n (λ k h. e k (omega arith))) (e n (omega arith)))
 
   -- what is found in list i, where nothing was before it, is what all of them together have
-  pub found : (i n : ℕ) → i < n → F (concat (tab i f)) ≡ none → (F (f i) ≡ none → ⊥) → F (concat (tab n f)) ≡ F (f i)
-  found i n h e some =
+  pub first-found : (i n : ℕ) → i < n → F (concat (tab i f)) ≡ none → (r : R) → r ≡ F (f i) → (r ≡ none → ⊥) → r ≡ F (concat (tab n f))
+  first-found i n h e r here some =
       let long : n ≡ (i + 1) + (n - (i + 1)) = omega arith in
-      let here : F (concat (tab (i + 1) f)) ≡ F (f i) = ap F (concat-more i f) ∙ s .next _ _ e in
-      ap (λ k. F (concat (tab k f))) long
+      let last : F (concat (tab (i + 1) f)) ≡ r = ap F (concat-more i f) ∙ s .next _ _ e ∙ sym here in
+      sym
+      (ap (λ k. F (concat (tab k f))) long
       ∙ ap (λ l. F (concat l)) (tab-cut (i + 1) (n - (i + 1)) f)
       ∙ ap F (concat-append (tab (i + 1) f) _)
-      ∙ s .stays _ _ (λ z. some (sym here ∙ z))
-      ∙ here
+      ∙ s .stays _ _ (λ z. some (sym last ∙ z))
+      ∙ last)
 
 -- the test that something in a list passes
 module _ {A : Type 0} (p : A → Bool) where
@@ -75,10 +76,6 @@ module _ {A : Type 0} (p : A → Bool) where
       go : (a b : Bool) → (a ≡ false → ⊥) → (a || b) ≡ a
       go true b h = refl
       go false b h = absurd (h refl)
-
-  pub met : (f : ℕ → List A) (i n : ℕ) → i < n → any p (concat (tab i f)) ≡ false → any p (f i) ≡ true
-      → any p (concat (tab n f)) ≡ true
-  met f i n h e t = found any-search f i n h e (λ z. true≢false (sym t ∙ z)) ∙ t
 
 -- the first reason of a list
 pub reason-search : (m : List ℕ) → Search (firstReason m) 0

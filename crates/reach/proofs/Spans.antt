@@ -1,23 +1,24 @@
--- Laws of a span: what it reaches word by word, and which spans a row and a lookup are.
+-- Laws of a span: what it reaches word by word, and which spans a row, a lookup and the palette are.
 use mathlib.Core.Path.{_≡_, refl, ap, sym, _∙_}
-use mathlib.Core.Bool.{Bool, true, false, cond, _&&_, _||_}
-use mathlib.Core.List.{List, _∷_, _++_}
+use mathlib.Core.Bool.{Bool, true, false, cond, _&&_, _||_, true≢false}
+use mathlib.Core.List.{List, [], _∷_, _++_}
 use Prim.Native.Nat.{ℕ, zero, suc, _+_, _-_, _*_, _/_, _%_, _^_, _<_, _≤_, min}
 use native.Mathlib.Numerals.{add-one}
 use native.Mathlib.Omega.{arith}
 use native.Mathlib.Nat.{mul-assoc, mul-comm, mod-eq-of-lt}
 use lib.Bits.{bitAnd, bitXor, xor-block, xor-zero-r, xor-lt}
 use lib.Dec.{ltb, leb}
+use borrow.Author.Tests.{le-leb, eq-eqb, ne-eqb}
 use Rattle.rules.specs.Base.{odd, tab, concat, any, marks, isWritten}
-use Rattle.rules.specs.Tile.{Tile, bankSize, bankWords}
+use Rattle.rules.specs.Tile.{Tile, bankSize, bankWords, paletteBase}
 use Rattle.rules.specs.Texdec.{tlut}
 use Rattle.rules.specs.Sampling.{isRgba32}
 use Rattle.rules.specs.Picture.{address, swapOdd}
-use Rattle.rules.specs.Reach.{modulus, xStep, xCount, doubled, rowBytes, reachAt, reachRow, reachWhole}
+use Rattle.rules.specs.Reach.{modulus, xStep, xCount, doubled, rowBytes, reachAt, reachRow, reachWhole, paletteOrder}
 use Rattle.rules.proofs.Computed.{agree-below}
-use Rattle.rules.proofs.Tables.{tab-none, tab-same, tab-cut, concat-append, concat-more}
+use Rattle.rules.proofs.Tables.{tab-none, tab-more, tab-same, tab-cut, concat-append, concat-more}
 use Rattle.rdp.specs.declared.units.WordAddr.{WordAddr}
-use Rattle.reach.specs.Words.{ors, twin, wordJoined, wordMeets}
+use Rattle.reach.specs.Words.{ors, lowWords, twin, wordJoined, wordMeets}
 use Rattle.reach.proofs.Words.{word-marks, word-any}
 use Rattle.reach.specs.declared.span.Span.{Span}
 use Rattle.reach.specs.Span.{Bounds, wordsOf, bytesOf, stepOf, placesIn, reachedAt, reached, inHalves}
@@ -75,9 +76,15 @@ module _ (s : Span) where
   cut-all : (w : ℕ) → s .bytes ≤ 8 * w → cutAt s w ≡ placesIn (s .sparse) (s .bytes)
   cut-all w h = let e : min (8 * w) (s .bytes) ≡ s .bytes = omega arith in ap (placesIn (s .sparse)) e
 
-  -- a place of a word is one of its eight bytes
+  -- a word has eight places at most, and each is one of its eight bytes
+  pub places-le : (w : ℕ) → placesOf s w ≤ 8
+  places-le w = go (s .sparse)
+    where
+      go : (b : Bool) → placesIn b (min (s .bytes - 8 * w) 8) ≤ 8
+      go true = omega arith
+      go false = omega arith
+
   pub byte-lt : (w k : ℕ) → k < placesOf s w → byteOf s k < 8
-  unfolding byteOf
   byte-lt w k h = swap-lt (s .odd) (stepOf (s .sparse) * k) (go (s .sparse) h)
     where
       go : (b : Bool) → k < placesIn b (min (s .bytes - 8 * w) 8) → stepOf b * k < 8
@@ -112,7 +119,7 @@ module _ (s : Span) (w : ℕ) (h : 8 * w < s .bytes) where
       go false = omega arith
 
   in-word : (k : ℕ) → k < placesOf s w → reachedAt s (cutAt s w + k) ≡ placeReached s w k
-  unfolding reachedAt placeReached byteOf
+  unfolding reachedAt placeReached
   in-word k q =
       let at : 8 * s .first .0 + (8 * w + byteOf s k) ≡ 8 * (s .first .0 + w) + byteOf s k = omega arith in
       rw (place k, swap-word (s .odd) w (stepOf (s .sparse) * k), at, wrapped (s .low) (s .first .0 + w) (byteOf s k) (byte-lt s w k q))
@@ -225,3 +232,47 @@ module _ (t : Tile) (mode : ℕ) where
       go : (low : Bool) → bytesOf low ≤ bankSize
       go true = omega arith
       go false = omega arith
+
+-- lists of one number each
+concat-one : (n : ℕ) (f : ℕ → ℕ) → concat (tab n (λ i. f i ∷ [])) ≡ tab n f
+unfolding concat
+concat-one zero f = rw (tab-none (λ (i : ℕ). f i ∷ []), tab-none f)
+concat-one (suc n) f = rw (← add-one n, concat-more n (λ (i : ℕ). f i ∷ []), concat-one n f, tab-more n f)
+
+-- bytes of the upper half as a span
+module _ (word bytes : ℕ) (h : 8 * word + bytes ≤ paletteBase) where
+  abbrev upperSpan : Span
+  upperSpan =
+      record {
+        first = record { 0 = lowWords + word };
+        bytes = bytes;
+        odd = false;
+        sparse = false;
+        low = false;
+        twice = false;
+      }
+
+  pub upper-reached : reached upperSpan ≡ tab bytes (λ i. paletteBase + 8 * word + i)
+  unfolding reached reachedAt twin
+  upper-reached =
+      let n : placesIn false bytes ≡ bytes = omega arith in
+      ap (λ n. concat (tab n (reachedAt upperSpan))) n
+      ∙ ap concat
+      (tab-same bytes (reachedAt upperSpan) (λ i. (paletteBase + 8 * word + i) ∷ []) (λ i l. ap (λ a. a ∷ []) (at i l)))
+      ∙ concat-one bytes (λ i. paletteBase + 8 * word + i)
+    where
+      at : (i : ℕ) → i < bytes → (8 * (lowWords + word) + 1 * i) % bankSize ≡ paletteBase + 8 * word + i
+      at i l = omega arith
+
+  pub upper-bounds : Bounds upperSpan
+  upper-bounds = record { bytes = omega arith; twice = λ t. absurd (true≢false (sym t)) }
+
+-- the palette's order: the tile's own, or all
+module _ (t : Tile) (mode : ℕ) (h : 2 ≤ mode) where
+  pub palette-own : t .siz ≡ 0 → tab 128 (λ i. paletteBase + 8 * (16 * t .palette) + i) ≡ paletteOrder t mode
+  unfolding paletteOrder
+  palette-own z = rw (le-leb 2 mode h, eq-eqb (t .siz) 0 z) (tab-same 128 _ _ (λ i l. omega arith))
+
+  pub palette-all : (t .siz ≡ 0 → ⊥) → tab 2048 (λ i. paletteBase + 8 * 0 + i) ≡ paletteOrder t mode
+  unfolding paletteOrder
+  palette-all z = rw (le-leb 2 mode h, ne-eqb (t .siz) 0 z) (tab-same 2048 _ _ (λ i l. omega arith))

@@ -43,7 +43,7 @@ wordIn s w = (s .first .0 + w) % wordsOf (s .low)
 abbrev pub placesOf : Span → ℕ → ℕ
 placesOf s w = placesIn (s .sparse) (min (s .bytes - 8 * w) 8)
 
-unfoldable pub byteOf : Span → ℕ → ℕ
+abbrev pub byteOf : Span → ℕ → ℕ
 byteOf s k = swapOdd (s .odd) (stepOf (s .sparse) * k)
 
 unfoldable pub bitsIn : Span → ℕ → ℕ

@@ -1,16 +1,22 @@
-// Spans of addresses, word by word: a row of a tile, or all that a lookup reaches.
+// Spans of addresses, word by word: a row of a tile, all that a lookup reaches, or its palette.
 ghost use mathlib.Core.Bool.{true};
 ghost use mathlib.Core.Path.{_≡_};
-ghost use Prim.Native.Nat.{_*_, _-_, _^_, _<_, _≤_, min};
-ghost use Rattle.rules.specs.Reach.{rowBytes, reachRow, reachWhole};
+ghost use Prim.Native.Nat.{ℕ, _+_, _*_, _-_, _^_, _<_, _≤_, min};
+ghost use Rattle.rules.specs.Base.{tab};
+ghost use Rattle.rules.specs.Reach.{rowBytes, reachRow, reachWhole, paletteOrder};
 ghost use Rattle.rules.specs.Sampling.{isRgba32};
-ghost use Rattle.rules.specs.Tile.{bankSize, bankWords};
+ghost use Rattle.rules.specs.Tile.{bankSize, bankWords, paletteBase, InRange};
 ghost use Rattle.rdp.specs.View.{tileOf};
 ghost use Rattle.reach.specs.Words.{lowWords};
-ghost use Rattle.reach.specs.Span.{Bounds, wordsOf, reached, wordCount, wordIn, bitsIn, inHalves};
+ghost use Rattle.reach.specs.Span.{Bounds, wordsOf, reached, wordCount, wordIn, placesOf, byteOf, bitsIn, inHalves};
+use crate::extent;
 use rdp::tile::TileDescriptor;
+use rdp::units;
 use rdp::units::WordAddr;
 use tmem::bank::Bank;
+
+// The word at which the upper half starts, the palette's.
+const UPPER: u32 = Bank::PALETTE_BASE as u32 / 8;
 
 // Every second bit of a byte, from the lowest on.
 const EVEN_BITS: u8 = 0x55;
@@ -96,6 +102,34 @@ impl Span {
         }
     }
 
+    // Bytes of the upper half in their order, from one of its words on.
+    fn upper(word: u32, bytes: usize) -> Span
+        requires { ⌜ 8 * word + bytes ≤ paletteBase ⌝ }
+        ensures { λ r. ⌜ reached r ≡ tab bytes (λ i. paletteBase + 8 * word + i) ⌝ }
+        ensures { λ r. ⌜ Bounds r ⌝ }
+    {
+        Span {
+            first: WordAddr(UPPER + word),
+            bytes,
+            odd: false,
+            sparse: false,
+            low: false,
+            twice: false,
+        }
+    }
+
+    // The palette in its order: the tile's own where an index has four bits, else all that the upper half has.
+    pub(crate) fn palette(tile: TileDescriptor) -> Span
+        requires { ⌜ InRange (tileOf tile) ⌝ }
+        ensures { λ r. ⌜ ((mode : ℕ) → 2 ≤ mode → reached r ≡ paletteOrder (tileOf tile) mode) ⌝ }
+        ensures { λ r. ⌜ Bounds r ⌝ }
+    {
+        if tile.siz == 0 {
+            return Span::upper(16 * tile.palette, 128);
+        }
+        Span::upper(0, Bank::SIZE - Bank::PALETTE_BASE)
+    }
+
     // How many words it has, the last one whole or not.
     pub(crate) fn words(self) -> usize
         requires { ⌜ Bounds self ⌝ }
@@ -121,5 +155,23 @@ impl Span {
     {
         let bits = in_halves(self.odd, first_bits(self.bytes - 8 * w));
         if self.sparse { bits & EVEN_BITS } else { bits }
+    }
+
+    // How many places it has.
+    pub(crate) fn places(self, w: usize) -> usize
+        requires { ⌜ 8 * w < self .bytes ⌝ }
+        ensures { λ r. ⌜ r ≡ placesOf self w ⌝ }
+    {
+        let bytes = extent::lesser(self.bytes - 8 * w, 8);
+        if self.sparse { (bytes + 1) / 2 } else { bytes }
+    }
+
+    // Which of its bytes place k is.
+    pub(crate) fn byte(self, k: usize) -> usize
+        requires { ⌜ k < 8 ⌝ }
+        ensures { λ r. ⌜ r ≡ byteOf self k ⌝ }
+    {
+        let byte = if self.sparse { 2 * k } else { k };
+        units::swap_odd_line(byte, self.odd)
     }
 }

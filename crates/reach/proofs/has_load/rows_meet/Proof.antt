@@ -1,14 +1,14 @@
 -- `reach::has_load::rows_meet` searches row after row. The loop's invariant: nothing was found in the rows below y. Assumes
 -- nothing.
 use mathlib.Core.Path.{_≡_, sym, _∙_}
-use mathlib.Core.Bool.{false}
+use mathlib.Core.Bool.{true, false, true≢false}
 use Prim.Native.Nat.{_≤_, _-_}
 use native.Mathlib.Omega.{arith}
 use borrow.Author.Needs.{needs}
 use Rattle.rules.specs.Base.{tab, concat, any, isWritten}
 use Rattle.rules.specs.Reach.{reachRow, reachPlain}
 use Rattle.rdp.specs.View.{tileOf}
-use Rattle.reach.proofs.Joined.{none-yet, none-more, any-search, met}
+use Rattle.reach.proofs.Joined.{none-yet, none-more, first-found, any-search}
 use Rattle.reach.proofs.Axes.{rows-le}
 use Rattle.reach.proofs.has_load.rows_meet.Statement.{statement}
 use Rattle.reach.proofs.has_load.rows_meet.Tie as tie
@@ -47,7 +47,7 @@ returns : tie.Need-returns Inv-loop μ-loop
 unfolding reachPlain
 returns c =
     let l = c .before .before .before .before .loop in
-    sym (met _ _ (l .y) _ (omega arith) (l .inv .1) (sym (found-in (c .before)) ∙ c .if1 .taken))
+    first-found (any-search _) _ (l .y) _ (omega arith) (l .inv .1) true (sym (c .if1 .taken) ∙ found-in (c .before)) true≢false
 
 add-y : tie.Need-add-y Inv-loop μ-loop
 add-y c = search needs

@@ -1,12 +1,12 @@
 -- `reach::has_load::span_meets` looks at word after word. The loop's invariant: nothing was found in the span's words before
 -- word w. Assumes nothing.
 use mathlib.Core.Path.{_≡_, sym, _∙_}
-use mathlib.Core.Bool.{false}
+use mathlib.Core.Bool.{true, false, true≢false}
 use Prim.Native.Nat.{_-_, _≤_}
 use native.Mathlib.Omega.{arith}
 use borrow.Author.Needs.{needs}
 use Rattle.rules.specs.Base.{tab, concat, any, isWritten}
-use Rattle.reach.proofs.Joined.{none-yet, none-more, any-search, met}
+use Rattle.reach.proofs.Joined.{none-yet, none-more, first-found, any-search}
 use Rattle.reach.specs.Span.{wordReached}
 use Rattle.reach.proofs.Spans.{any-word, reached-words}
 use Rattle.reach.proofs.has_load.span_meets.Statement.{statement}
@@ -50,7 +50,8 @@ found c =
 returns : tie.Need-returns Inv-loop μ-loop
 returns c =
     let l = c .before .before .before .before .before in
-    rw reached-words (sym (met _ _ (l .loop .w) _ (omega arith) (l .loop .inv .1) (sym (found (c .before)) ∙ c .if1 .taken)))
+    rw reached-words
+    (first-found (any-search _) _ (l .loop .w) _ (omega arith) (l .loop .inv .1) true (sym (c .if1 .taken) ∙ found (c .before)) true≢false)
 
 add-w : tie.Need-add-w Inv-loop μ-loop
 add-w c = search needs

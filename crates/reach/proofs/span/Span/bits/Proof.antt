@@ -2,7 +2,7 @@
 use mathlib.Core.Bool.{true, false}
 use native.Mathlib.Omega.{arith}
 use borrow.Author.Needs.{needs}
-use Rattle.reach.specs.Span.{byteOf, bitsIn}
+use Rattle.reach.specs.Span.{bitsIn}
 use Rattle.reach.proofs.Spans.{bits-placed}
 use Rattle.reach.proofs.span.Span.bits.Statement.{statement}
 use Rattle.reach.proofs.span.Span.bits.Tie as tie
@@ -20,14 +20,14 @@ in-halves-requires : tie.Need-in-halves-requires
 in-halves-requires c κs = search needs
 
 returns : tie.Need-returns
-unfolding bitsIn byteOf
+unfolding bitsIn
 returns c =
     let d = c .before in
     let s = d .before .before .before .args .self in
     rw (c .if1 .taken, d .in-halves .ensures, d .before .first-bits .ensures) (bits-placed true (s .odd) _ (omega arith))
 
 returns-2 : tie.Need-returns-2
-unfolding bitsIn byteOf
+unfolding bitsIn
 returns-2 c =
     let d = c .before in
     let s = d .before .before .before .args .self in
