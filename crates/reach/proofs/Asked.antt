@@ -4,16 +4,17 @@ use mathlib.Core.Bool.{Bool, true, false}
 use mathlib.Core.List.{List, _++_}
 use Prim.Native.Nat.{ℕ, zero, suc, _+_, _*_, _<_}
 use native.Mathlib.Omega.{arith}
+use lib.Bits.{bitAnd}
 use lib.ListN.{getD}
 use borrow.Author.Tests.{lt-leb}
 use Rattle.rules.specs.Tile.{Tile, paletteBase}
 use Rattle.rules.specs.Reach.{reach, paletteOrder, orElse, firstReason, rejection}
 use Rattle.reach.specs.Words.{eightBytes, twin}
 use Rattle.reach.specs.declared.span.Span.{Span}
-use Rattle.reach.specs.Span.{wordIn, placesOf, byteOf, placeReached, wordReached}
+use Rattle.reach.specs.Span.{wordIn, placesOf, byteOf, lanesOf, placeReached, wordReached}
 use Rattle.reach.proofs.Joined.{none-all, reason-search}
-use Rattle.reach.proofs.Bytes.{zero-byte}
-use Rattle.reach.proofs.Spans.{byte-lt}
+use Rattle.reach.proofs.Bytes.{under-byte}
+use Rattle.reach.proofs.Spans.{byte-lt, lane-full}
 
 or-none : (x : ℕ) → orElse x 0 ≡ x
 or-none zero = refl
@@ -43,19 +44,21 @@ module _ (m : List ℕ) where
     unfolding placeReached
     place-both k h = rw h (both (at k))
 
-    -- a word whose bytes are zero has no reason, where the word that it stands for has none, too
-    pub clear-word : eightBytes m (8 * wordIn s w) ≡ 0 → (s .twice ≡ true → eightBytes m (8 * wordIn s w + paletteBase) ≡ 0)
+    -- a word has no reason where its lanes have none, nor those of the word that it stands for
+    pub clear-word : ((i : ℕ) → getD m i 0 < 256) → bitAnd (lanesOf (s .sparse)) (eightBytes m (8 * wordIn s w)) ≡ 0
+        → (s .twice ≡ true → bitAnd (lanesOf (s .sparse)) (eightBytes m (8 * wordIn s w + paletteBase)) ≡ 0)
         → firstReason m (wordReached s w) ≡ 0
     unfolding wordReached
-    clear-word own other = none-all (reason-search m) (placeReached s w) (placesOf s w) (λ k h. place k h (s .twice) refl)
+    clear-word small own other = none-all (reason-search m) (placeReached s w) (placesOf s w) (λ k h. place k h (s .twice) refl)
       where
+        clear : (k from : ℕ) → k < placesOf s w → bitAnd (lanesOf (s .sparse)) (eightBytes m from) ≡ 0 → getD m (from + byteOf s k) 0 ≡ 0
+        clear k from h e = under-byte m from (byteOf s k) (lanesOf (s .sparse)) e (byte-lt s w k h) (small _) (lane-full s w k h)
+
         place : (k : ℕ) → k < placesOf s w → (b : Bool) → s .twice ≡ b → firstReason m (placeReached s w k) ≡ 0
-        place k h false t = sym (place-once k t) ∙ zero-byte m (8 * wordIn s w) (byteOf s k) own (byte-lt s w k h)
+        place k h false t = sym (place-once k t) ∙ clear k (8 * wordIn s w) h own
         place k h true t =
             let upper : at k + paletteBase ≡ (8 * wordIn s w + paletteBase) + byteOf s k = omega arith in
-            sym (place-both k t)
-            ∙ rw (zero-byte m (8 * wordIn s w) (byteOf s k) own (byte-lt s w k h), upper)
-            (zero-byte m (8 * wordIn s w + paletteBase) (byteOf s k) (other t) (byte-lt s w k h))
+            sym (place-both k t) ∙ rw (clear k (8 * wordIn s w) h own, upper) (clear k (8 * wordIn s w + paletteBase) h (other t))
 
   -- modes 0 and 1 have no palette
   pub no-palette : (t : Tile) (mode : ℕ) → mode < 2 → 0 ≡ firstReason m (paletteOrder t mode)

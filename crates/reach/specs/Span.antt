@@ -49,6 +49,10 @@ byteOf s k = swapOdd (s .odd) (stepOf (s .sparse) * k)
 unfoldable pub bitsIn : Span → ℕ → ℕ
 bitsIn s w = ors (placesOf s w) (λ k. 2 ^ byteOf s k)
 
+-- all bits of the bytes that places can be, in the number of a word's eight
+unfoldable pub lanesOf : Bool → ℕ
+lanesOf sparse = ors (placesIn sparse 8) (λ k. 255 * 2 ^ (8 * (stepOf sparse * k)))
+
 -- what place k of word w reaches, and what the word does
 unfoldable pub placeReached : Span → ℕ → ℕ → List ℕ
 placeReached s w k = twin (s .twice) (8 * wordIn s w + byteOf s k)

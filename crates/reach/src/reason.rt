@@ -10,19 +10,19 @@ use crate::span::Span;
 use crate::word;
 use tmem::bank::Bank;
 
-// No byte of the word has one, nor one of the word that it stands for.
+// No byte of the word that a place can be has one, nor one of the word that it stands for.
 fn is_clear(reasons: &[u8], span: Span, w: usize) -> bool
     requires { ⌜ length (now reasons) ≡ reasonsSize ⌝ }
     requires { ⌜ Bounds span × (8 * w < span .bytes) ⌝ }
     ensures { λ r. ⌜ (r ≡ true → firstReason (now (reasons .entry)) (wordReached span w) ≡ 0) ⌝ }
 {
     let from = 8 * span.word(w);
+    let own = word::eight_bytes(reasons, from);
     if span.twice {
-        return word::eight_bytes(reasons, from)
-            | word::eight_bytes(reasons, from + Bank::PALETTE_BASE)
-            == 0;
+        let other = word::eight_bytes(reasons, from + Bank::PALETTE_BASE);
+        return span.lanes() & (own | other) == 0;
     }
-    word::eight_bytes(reasons, from) == 0
+    span.lanes() & own == 0
 }
 
 // A reason where there is one, else another.

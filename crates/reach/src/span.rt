@@ -8,7 +8,7 @@ ghost use Rattle.rules.specs.Sampling.{isRgba32};
 ghost use Rattle.rules.specs.Tile.{bankSize, bankWords, paletteBase, InRange};
 ghost use Rattle.rdp.specs.View.{tileOf};
 ghost use Rattle.reach.specs.Words.{lowWords};
-ghost use Rattle.reach.specs.Span.{Bounds, wordsOf, reached, wordCount, wordIn, placesOf, byteOf, bitsIn, inHalves};
+ghost use Rattle.reach.specs.Span.{Bounds, wordsOf, reached, wordCount, wordIn, placesOf, byteOf, lanesOf, bitsIn, inHalves};
 use crate::extent;
 use rdp::tile::TileDescriptor;
 use rdp::units;
@@ -20,6 +20,11 @@ const UPPER: u32 = Bank::PALETTE_BASE as u32 / 8;
 
 // Every second bit of a byte, from the lowest on.
 const EVEN_BITS: u8 = 0x55;
+
+// Every second byte of eight, from the lowest on, and all of them.
+const EVEN_BYTES: u64 = 0x00ff_00ff_00ff_00ff;
+
+const ALL_BYTES: u64 = 0xffff_ffff_ffff_ffff;
 
 // The bytes from the start of a word on, wrapped at the bank's end, or where it is `low` at the palette. Where it is `sparse`
 // every second one alone is reached, where it is `odd` the halves of a word change places, and where it is `twice` each
@@ -157,7 +162,14 @@ impl Span {
         if self.sparse { bits & EVEN_BITS } else { bits }
     }
 
-    // How many places it has.
+    // All bits of the bytes that places can be, where the eight bytes of a word are one number.
+    pub(crate) fn lanes(self) -> u64
+        ensures { λ r. ⌜ r ≡ lanesOf (self .sparse) ⌝ }
+    {
+        if self.sparse { EVEN_BYTES } else { ALL_BYTES }
+    }
+
+    // How many places word w has.
     pub(crate) fn places(self, w: usize) -> usize
         requires { ⌜ 8 * w < self .bytes ⌝ }
         ensures { λ r. ⌜ r ≡ placesOf self w ⌝ }

@@ -27,20 +27,27 @@ pub(crate) fn mark_word(map: &mut [u8], twice: bool, at: usize, bits: u8)
     }
 }
 
-// Eight bytes, or-ed together, which the processor reads at once.
-pub(crate) fn eight_bytes(bytes: &[u8], from: usize) -> u8
+// A byte as a wider number.
+fn wide(byte: u8) -> u64
+    ensures { λ r. ⌜ (r ≡ byte) × (r < 256) ⌝ }
+{
+    byte as u64
+}
+
+// Eight bytes as one number, the first lowest, which the processor reads at once.
+pub(crate) fn eight_bytes(bytes: &[u8], from: usize) -> u64
     requires { ⌜ from + 8 ≤ length (now bytes) ⌝ }
     ensures { λ r. ⌜ r ≡ eightBytes (now (bytes .entry)) from ⌝ }
 {
-    let mut all = 0u8;
+    let mut all = 0u64;
     for k in 0..8 {
-        all = all | bytes[from + k];
+        all = all | wide(bytes[from + k]) << 8 * k;
     }
     all
 }
 
 // The bytes of a word's numbers, or-ed together.
-fn word_bytes(written: &[u8], at: usize) -> u8
+fn word_bytes(written: &[u8], at: usize) -> u64
     requires { ⌜ length (now written) ≡ writtenSize ⌝ }
     requires { ⌜ at < bankWords ⌝ }
     ensures { λ r. ⌜ r ≡ wordBytes (now (written .entry)) at ⌝ }

@@ -1,10 +1,13 @@
 -- `reach::reason::is_clear` looks at the bytes of one word or two. Assumes nothing.
 use mathlib.Core.Path.{sym, _∙_}
 use mathlib.Core.Bool.{true≢false}
+use Prim.Native.Nat.{ℕ, _<_}
 use native.Mathlib.Omega.{arith}
+use lib.Bits.{bitAnd}
+use lib.ListN.{getD}
 use borrow.Author.Tests.{eqb-true}
 use borrow.Author.Needs.{needs}
-use Rattle.reach.proofs.Bytes.{or-zero}
+use Rattle.reach.proofs.Bytes.{and-or, or-zero}
 use Rattle.reach.proofs.Asked.{clear-word}
 use Rattle.reach.proofs.reason.is_clear.Statement.{statement}
 use Rattle.reach.proofs.reason.is_clear.Tie as tie
@@ -22,24 +25,38 @@ add-eight-bytes : tie.Need-add-eight-bytes
 add-eight-bytes c = search needs
 
 eight-bytes-requires-2 : tie.Need-eight-bytes-requires-2
-eight-bytes-requires-2 c κs = omega (arith, c .before .before .word .ensures .1 .1 (c .before .if1 .taken))
+eight-bytes-requires-2 c κs = omega (arith, c .before .before .word .ensures .1 .1 (c .if1 .taken))
+
+lanes-requires : tie.Need-lanes-requires
+lanes-requires c κs = search needs
+
+-- every byte is below 256
+small : (c : tie.After-shared-slice-known) (i : ℕ) → getD (c .before .args .reasons .now) i 0 < 256
+small c i = omega (arith, c .shared-slice-known .given i)
 
 returns : tie.Need-returns
 returns c h =
-    let s = c .before .before .before .before .before in
-    let z = or-zero _ _ (eqb-true _ _ h) in
-    let at = c .before .before .before .word .ensures .0 in
-    let own = sym (c .before .eight-bytes .ensures) ∙ z .0 in
-    let other = sym (c .eight-bytes2 .ensures) ∙ z .1 in
-    clear-word _ (s .args .span) (s .args .w) (rw (← at) own) (λ t. rw (← at) other)
+    let f = c .before in
+    let e = f .before .before in
+    let k = e .before .before in
+    let a = k .before .args in
+    let at = e .before .word .ensures .0 in
+    let l = c .lanes .result in
+    let z = or-zero (bitAnd l (e .eight-bytes .result)) (bitAnd l (f .eight-bytes2 .result)) (sym (and-or l _ _) ∙ eqb-true _ _ h) in
+    clear-word _ (a .span) (a .w) (small k)
+    (rw (← at, ← e .eight-bytes .ensures, ← c .lanes .ensures) (z .0))
+    (λ t. rw (← at, ← f .eight-bytes2 .ensures, ← c .lanes .ensures) (z .1))
 
-eight-bytes-requires-3 : tie.Need-eight-bytes-requires-3
-eight-bytes-requires-3 c κs = search needs
+lanes-requires-2 : tie.Need-lanes-requires-2
+lanes-requires-2 c κs = search needs
 
 returns-2 : tie.Need-returns-2
 returns-2 c h =
-    let s = c .before .before .before .before in
-    clear-word _ (s .args .span) (s .args .w) (rw (← c .before .before .word .ensures .0) (sym (c .eight-bytes3 .ensures) ∙ eqb-true _ _ h))
+    let e = c .before .before in
+    let k = e .before .before in
+    let a = k .before .args in
+    clear-word _ (a .span) (a .w) (small k)
+    (rw (← e .before .word .ensures .0, ← e .eight-bytes .ensures, ← c .lanes2 .ensures) (eqb-true _ _ h))
     (λ t. absurd (true≢false (sym t ∙ c .before .if1 .left)))
 
 pub is-clear-spec : {M : Type 1} → statement M
@@ -51,6 +68,7 @@ is-clear-spec =
     eight-bytes-requires
     add-eight-bytes
     eight-bytes-requires-2
+    lanes-requires
     returns
-    eight-bytes-requires-3
+    lanes-requires-2
     returns-2)
