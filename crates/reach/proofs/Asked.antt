@@ -11,10 +11,10 @@ use Rattle.rules.specs.Tile.{Tile, paletteBase}
 use Rattle.rules.specs.Reach.{reach, paletteOrder, orElse, firstReason, rejection}
 use Rattle.reach.specs.Words.{eightBytes, twin}
 use Rattle.reach.specs.declared.span.Span.{Span}
-use Rattle.reach.specs.Span.{wordIn, placesOf, byteOf, lanesOf, placeReached, wordReached}
+use Rattle.reach.specs.Span.{wordIn, placesOf, byteOf, lanesIn, placeReached, wordReached}
 use Rattle.reach.proofs.Joined.{none-all, reason-search}
-use Rattle.reach.proofs.Bytes.{under-byte}
-use Rattle.reach.proofs.Spans.{byte-lt, lane-full}
+use Rattle.reach.proofs.Bytes.{zero-lane}
+use Rattle.reach.proofs.Spans.{byte-lt}
 
 or-none : (x : ℕ) → orElse x 0 ≡ x
 or-none zero = refl
@@ -45,14 +45,14 @@ module _ (m : List ℕ) where
     place-both k h = rw h (both (at k))
 
     -- a word has no reason where its lanes have none, nor those of the word that it stands for
-    pub clear-word : ((i : ℕ) → getD m i 0 < 256) → bitAnd (lanesOf (s .sparse)) (eightBytes m (8 * wordIn s w)) ≡ 0
-        → (s .twice ≡ true → bitAnd (lanesOf (s .sparse)) (eightBytes m (8 * wordIn s w + paletteBase)) ≡ 0)
+    pub clear-word : ((i : ℕ) → getD m i 0 < 256) → bitAnd (lanesIn s w) (eightBytes m (8 * wordIn s w)) ≡ 0
+        → (s .twice ≡ true → bitAnd (lanesIn s w) (eightBytes m (8 * wordIn s w + paletteBase)) ≡ 0)
         → firstReason m (wordReached s w) ≡ 0
-    unfolding wordReached
+    unfolding wordReached lanesIn
     clear-word small own other = none-all (reason-search m) (placeReached s w) (placesOf s w) (λ k h. place k h (s .twice) refl)
       where
-        clear : (k from : ℕ) → k < placesOf s w → bitAnd (lanesOf (s .sparse)) (eightBytes m from) ≡ 0 → getD m (from + byteOf s k) 0 ≡ 0
-        clear k from h e = under-byte m from (byteOf s k) (lanesOf (s .sparse)) e (byte-lt s w k h) (small _) (lane-full s w k h)
+        clear : (k from : ℕ) → k < placesOf s w → bitAnd (lanesIn s w) (eightBytes m from) ≡ 0 → getD m (from + byteOf s k) 0 ≡ 0
+        clear k from h e = zero-lane m from (placesOf s w) (byteOf s) e k h (byte-lt s w k h) (small _)
 
         place : (k : ℕ) → k < placesOf s w → (b : Bool) → s .twice ≡ b → firstReason m (placeReached s w k) ≡ 0
         place k h false t = sym (place-once k t) ∙ clear k (8 * wordIn s w) h own

@@ -6,7 +6,7 @@ use Prim.Native.Nat.{ℕ, zero, suc, _+_, _-_, _*_, _/_, _%_, _^_, _<_, _≤_}
 use native.Mathlib.Omega.{arith}
 use native.Mathlib.Decide.{ℕ-discrete, decLt}
 use native.Mathlib.Nat.{one-mul, zero-div, mod-eq-of-lt}
-use lib.Bits.{bitAnd, bitOr, and-step, or-step, or-shr, and-shr, or-zero-r, and-zero-r, and-le-l, and-le-r, and-comm, and-mod, and-mask, or-add-and}
+use lib.Bits.{bitAnd, bitOr, and-step, or-step, or-shr, and-shr, or-zero-r, and-zero-r, and-le-l, and-le-r, and-comm, and-mask, or-add-and}
 use lib.Dec.{eqb, ltb}
 use lib.ListN.{getD}
 use lib.Pow.{shl-exact, shl-shr}
@@ -149,19 +149,20 @@ apart-each v (suc n) f e k h = go (ℕ-discrete k n) (λ z l. apart-each v n f z
     go (yes q) ih = rw q (parts .1)
     go (no q) ih = ih (parts .0) (omega (arith, q))
 
--- a byte is zero where it has nothing in common with a number that has all bits of that byte
-pub under-byte : (m : List ℕ) (from k v : ℕ) → bitAnd v (eightBytes m from) ≡ 0 → k < 8 → getD m (from + k) 0 < 256
-    → v / 2 ^ (8 * k) % 256 ≡ 255 → getD m (from + k) 0 ≡ 0
+-- bytes are zero where the number of the eight has nothing in common with all bits of those bytes, byte g k for each k below n
+pub zero-lane : (m : List ℕ) (from n : ℕ) (g : ℕ → ℕ) → bitAnd (ors n (λ k. 255 * 2 ^ (8 * g k))) (eightBytes m from) ≡ 0
+    → (k : ℕ) → k < n → g k < 8 → getD m (from + g k) 0 < 256 → getD m (from + g k) 0 ≡ 0
 unfolding eightBytes
-under-byte m from k v e h l full =
-    let b = getD m (from + k) 0 in
-    let none : bitAnd v (b * 2 ^ (8 * k)) ≡ 0 = apart-each v 8 (λ k. getD m (from + k) 0 * 2 ^ (8 * k)) e k h in
-    let here : bitAnd (v / 2 ^ (8 * k)) b ≡ 0 =
-    ap (bitAnd (v / 2 ^ (8 * k))) (sym (shl-shr b (8 * k))) ∙ sym (and-shr v (b * 2 ^ (8 * k)) (8 * k)) ∙ rw none (zero-div (2 ^ (8 * k))) in
-    let low : b % 256 ≡ b = mod-eq-of-lt l in
+zero-lane m from n g e k h l small =
+    let b = getD m (from + g k) 0 in
+    let up = 8 * g k in
+    let lane : bitAnd (255 * 2 ^ up) (eightBytes m from) ≡ 0 =
+    and-comm (255 * 2 ^ up) (eightBytes m from)
+    ∙ apart-each (eightBytes m from) n (λ k. 255 * 2 ^ (8 * g k)) (and-comm (eightBytes m from) _ ∙ e) k h in
+    let here : bitAnd (255 * 2 ^ up) (b * 2 ^ up) ≡ 0 = apart-each (255 * 2 ^ up) 8 (λ j. getD m (from + j) 0 * 2 ^ (8 * j)) lane (g k) l in
     let byte : bitAnd 255 b ≡ 0 =
-    ap₂ bitAnd (sym full) (sym low) ∙ sym (and-mod (v / 2 ^ (8 * k)) b 8) ∙ ap (λ n. n % 2 ^ 8) here in
-    sym low ∙ sym (and-mask b 8) ∙ and-comm b 255 ∙ byte
+    ap₂ bitAnd (sym (shl-shr 255 up)) (sym (shl-shr b up)) ∙ sym (and-shr (255 * 2 ^ up) (b * 2 ^ up) up) ∙ rw here (zero-div (2 ^ up)) in
+    sym (mod-eq-of-lt small) ∙ sym (and-mask b 8) ∙ and-comm b 255 ∙ byte
 
 -- a word whose bytes are zero has no marks
 pub blank-word : (m : List ℕ) (w : ℕ) → wordBytes m w ≡ 0 → 0 ≡ wordMarks m w

@@ -21,8 +21,8 @@ use Rattle.rdp.specs.declared.units.WordAddr.{WordAddr}
 use Rattle.reach.specs.Words.{ors, lowWords, twin, wordJoined, wordMeets}
 use Rattle.reach.proofs.Words.{word-marks, word-any}
 use Rattle.reach.specs.declared.span.Span.{Span}
-use Rattle.reach.specs.Span.{Bounds, wordsOf, bytesOf, stepOf, placesIn, reachedAt, reached, inHalves}
-use Rattle.reach.specs.Span.{wordCount, wordIn, placesOf, byteOf, lanesOf, bitsIn, placeReached, wordReached}
+use Rattle.reach.specs.Span.{Bounds, wordsOf, bytesOf, stepOf, placesIn, reachedAt, reached, inHalves, halvesOfEight}
+use Rattle.reach.specs.Span.{wordCount, wordIn, placesOf, byteOf, bitsIn, placeReached, wordReached}
 use Rattle.reach.proofs.Axes.{row-bytes-le}
 
 -- the swap of halves stays in its word
@@ -65,10 +65,6 @@ bank-bytes false = refl
 abbrev cutAt : Span → ℕ → ℕ
 cutAt s w = placesIn (s .sparse) (min (8 * w) (s .bytes))
 
--- the byte of place k in the lanes
-abbrev lane : Bool → Bool → ℕ → ℕ
-lane sparse odd k = lanesOf sparse / 2 ^ (8 * swapOdd odd (stepOf sparse * k)) % 256
-
 module _ (s : Span) where
   cut-none : cutAt s 0 ≡ 0
   cut-none = go (s .sparse)
@@ -94,17 +90,6 @@ module _ (s : Span) where
       go : (b : Bool) → k < placesIn b (min (s .bytes - 8 * w) 8) → stepOf b * k < 8
       go true q = omega arith
       go false q = omega arith
-
-  -- all its bits are in the lanes, computed at each place
-  pub lane-full : (w k : ℕ) → k < placesOf s w → lanesOf (s .sparse) / 2 ^ (8 * byteOf s k) % 256 ≡ 255
-  unfolding lanesOf ors
-  lane-full w k h = go (s .sparse) (s .odd) h
-    where
-      go : (b o : Bool) → k < placesIn b (min (s .bytes - 8 * w) 8) → lane b o k ≡ 255
-      go true true q = agree-below 4 (lane true true) (λ j. 255) tt k (omega arith)
-      go true false q = agree-below 4 (lane true false) (λ j. 255) tt k (omega arith)
-      go false true q = agree-below 8 (lane false true) (λ j. 255) tt k (omega arith)
-      go false false q = agree-below 8 (lane false false) (λ j. 255) tt k (omega arith)
 
   -- a word is marked, or looked at
   pub marks-word : (w : ℕ) (m : List ℕ) → marks m (wordReached s w) ≡ wordJoined (s .twice) m (wordIn s w) (bitsIn s w)
@@ -169,6 +154,21 @@ bits-placed true true n h = agree-below 9 (made true true) (placed true true) tt
 bits-placed true false n h = agree-below 9 (made true false) (placed true false) tt n (omega arith)
 bits-placed false true n h = agree-below 9 (made false true) (placed false true) tt n (omega arith)
 bits-placed false false n h = agree-below 9 (made false false) (placed false false) tt n (omega arith)
+
+-- and so for all bits of those bytes
+abbrev madeLanes : Bool → Bool → ℕ → ℕ
+madeLanes sparse odd n =
+    cond sparse (bitAnd (halvesOfEight odd (2 ^ (8 * n) - 1)) 71777214294589695) (halvesOfEight odd (2 ^ (8 * n) - 1))
+
+abbrev placedLanes : Bool → Bool → ℕ → ℕ
+placedLanes sparse odd n = ors (placesIn sparse n) (λ j. 255 * 2 ^ (8 * swapOdd odd (stepOf sparse * j)))
+
+pub lanes-placed : (sparse odd : Bool) (n : ℕ) → n ≤ 8 → madeLanes sparse odd n ≡ placedLanes sparse odd n
+unfolding ors
+lanes-placed true true n h = agree-below 9 (madeLanes true true) (placedLanes true true) tt n (omega arith)
+lanes-placed true false n h = agree-below 9 (madeLanes true false) (placedLanes true false) tt n (omega arith)
+lanes-placed false true n h = agree-below 9 (madeLanes false true) (placedLanes false true) tt n (omega arith)
+lanes-placed false false n h = agree-below 9 (madeLanes false false) (placedLanes false false) tt n (omega arith)
 
 -- byte x of a row, from the row's first word and from the tile's
 row-place : (low : Bool) (first word line y x : ℕ) (o : Bool) → first ≡ (word + y * line) % bankWords

@@ -49,9 +49,9 @@ byteOf s k = swapOdd (s .odd) (stepOf (s .sparse) * k)
 unfoldable pub bitsIn : Span → ℕ → ℕ
 bitsIn s w = ors (placesOf s w) (λ k. 2 ^ byteOf s k)
 
--- all bits of the bytes that places can be, in the number of a word's eight
-unfoldable pub lanesOf : Bool → ℕ
-lanesOf sparse = ors (placesIn sparse 8) (λ k. 255 * 2 ^ (8 * (stepOf sparse * k)))
+-- all bits of those bytes in the number of the word's eight
+unfoldable pub lanesIn : Span → ℕ → ℕ
+lanesIn s w = ors (placesOf s w) (λ k. 255 * 2 ^ (8 * byteOf s k))
 
 -- what place k of word w reaches, and what the word does
 unfoldable pub placeReached : Span → ℕ → ℕ → List ℕ
@@ -63,6 +63,9 @@ wordReached s w = concat (tab (placesOf s w) (placeReached s w))
 -- the bits of a word whose halves change places on odd rows
 abbrev pub inHalves : Bool → ℕ → ℕ
 inHalves odd bits = cond odd (bitOr (bits * 2 ^ 4 % 2 ^ 8) (bits / 2 ^ 4)) bits
+
+abbrev pub halvesOfEight : Bool → ℕ → ℕ
+halvesOfEight odd bytes = cond odd (bitOr (bytes * 2 ^ 32 % 2 ^ 64) (bytes / 2 ^ 32)) bytes
 
 -- a span has the bank's bytes at most, and addresses that stand for others are in the lower half
 pub record Bounds (s : Span) : Type 0 where

@@ -10,7 +10,7 @@ use crate::span::Span;
 use crate::word;
 use tmem::bank::Bank;
 
-// No byte of the word that a place can be has one, nor one of the word that it stands for.
+// No place of the word has one, nor an address that a place stands for. All bytes are tested at once.
 fn is_clear(reasons: &[u8], span: Span, w: usize) -> bool
     requires { ⌜ length (now reasons) ≡ reasonsSize ⌝ }
     requires { ⌜ Bounds span × (8 * w < span .bytes) ⌝ }
@@ -20,9 +20,9 @@ fn is_clear(reasons: &[u8], span: Span, w: usize) -> bool
     let own = word::eight_bytes(reasons, from);
     if span.twice {
         let other = word::eight_bytes(reasons, from + Bank::PALETTE_BASE);
-        return span.lanes() & (own | other) == 0;
+        return span.lanes(w) & (own | other) == 0;
     }
-    span.lanes() & own == 0
+    span.lanes(w) & own == 0
 }
 
 // A reason where there is one, else another.

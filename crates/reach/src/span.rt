@@ -8,7 +8,7 @@ ghost use Rattle.rules.specs.Sampling.{isRgba32};
 ghost use Rattle.rules.specs.Tile.{bankSize, bankWords, paletteBase, InRange};
 ghost use Rattle.rdp.specs.View.{tileOf};
 ghost use Rattle.reach.specs.Words.{lowWords};
-ghost use Rattle.reach.specs.Span.{Bounds, wordsOf, reached, wordCount, wordIn, placesOf, byteOf, lanesOf, bitsIn, inHalves};
+ghost use Rattle.reach.specs.Span.{Bounds, wordsOf, reached, wordCount, wordIn, placesOf, byteOf, bitsIn, inHalves, lanesIn, halvesOfEight};
 use crate::extent;
 use rdp::tile::TileDescriptor;
 use rdp::units;
@@ -21,10 +21,8 @@ const UPPER: u32 = Bank::PALETTE_BASE as u32 / 8;
 // Every second bit of a byte, from the lowest on.
 const EVEN_BITS: u8 = 0x55;
 
-// Every second byte of eight, from the lowest on, and all of them.
+// Every second byte of eight.
 const EVEN_BYTES: u64 = 0x00ff_00ff_00ff_00ff;
-
-const ALL_BYTES: u64 = 0xffff_ffff_ffff_ffff;
 
 // The bytes from the start of a word on, wrapped at the bank's end, or where it is `low` at the palette. Where it is `sparse`
 // every second one alone is reached, where it is `odd` the halves of a word change places, and where it is `twice` each
@@ -64,11 +62,33 @@ fn first_bits(count: usize) -> u8
     if count < 8 { (1u8 << count) - 1 } else { 255 }
 }
 
+// All bits of the lowest bytes, eight at most.
+fn first_bytes(count: usize) -> u64
+    ensures { λ r. ⌜ r ≡ 2 ^ (8 * min count 8) - 1 ⌝ }
+{
+    if count < 8 {
+        (1u64 << 8 * count) - 1
+    } else {
+        0xffff_ffff_ffff_ffff
+    }
+}
+
 // On odd rows the halves of a word change places.
 fn in_halves(odd: bool, bits: u8) -> u8
     ensures { λ r. ⌜ r ≡ inHalves odd bits ⌝ }
 {
     if odd { bits << 4 | bits >> 4 } else { bits }
+}
+
+// The same for the eight bytes of a word.
+fn halves_of_eight(odd: bool, bytes: u64) -> u64
+    ensures { λ r. ⌜ r ≡ halvesOfEight odd bytes ⌝ }
+{
+    if odd {
+        bytes << 32 | bytes >> 32
+    } else {
+        bytes
+    }
 }
 
 impl Span {
@@ -162,11 +182,17 @@ impl Span {
         if self.sparse { bits & EVEN_BITS } else { bits }
     }
 
-    // All bits of the bytes that places can be, where the eight bytes of a word are one number.
-    pub(crate) fn lanes(self) -> u64
-        ensures { λ r. ⌜ r ≡ lanesOf (self .sparse) ⌝ }
+    // All bits of those bytes, where the eight bytes of the word are one number.
+    pub(crate) fn lanes(self, w: usize) -> u64
+        requires { ⌜ 8 * w < self .bytes ⌝ }
+        ensures { λ r. ⌜ r ≡ lanesIn self w ⌝ }
     {
-        if self.sparse { EVEN_BYTES } else { ALL_BYTES }
+        let bytes = halves_of_eight(self.odd, first_bytes(self.bytes - 8 * w));
+        if self.sparse {
+            bytes & EVEN_BYTES
+        } else {
+            bytes
+        }
     }
 
     // How many places word w has.
