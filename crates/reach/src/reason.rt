@@ -20,9 +20,9 @@ fn is_clear(reasons: &[u8], span: Span, w: usize) -> bool
     let own = word::eight_bytes(reasons, from);
     if span.twice {
         let other = word::eight_bytes(reasons, from + Bank::PALETTE_BASE);
-        return span.lanes(w) & (own | other) == 0;
+        return span.is_zero(w, own | other);
     }
-    span.lanes(w) & own == 0
+    span.is_zero(w, own)
 }
 
 // A reason where there is one, else another.

@@ -2,6 +2,7 @@
 ghost use mathlib.Core.Bool.{true};
 ghost use mathlib.Core.Path.{_≡_};
 ghost use Prim.Native.Nat.{ℕ, _+_, _*_, _-_, _^_, _<_, _≤_, min};
+ghost use lib.Bits.{bitAnd};
 ghost use Rattle.rules.specs.Base.{tab};
 ghost use Rattle.rules.specs.Reach.{rowBytes, reachRow, reachWhole, paletteOrder};
 ghost use Rattle.rules.specs.Sampling.{isRgba32};
@@ -183,7 +184,7 @@ impl Span {
     }
 
     // All bits of those bytes, where the eight bytes of the word are one number.
-    pub(crate) fn lanes(self, w: usize) -> u64
+    fn lanes(self, w: usize) -> u64
         requires { ⌜ 8 * w < self .bytes ⌝ }
         ensures { λ r. ⌜ r ≡ lanesIn self w ⌝ }
     {
@@ -193,6 +194,17 @@ impl Span {
         } else {
             bytes
         }
+    }
+
+    // Those bytes are zero in such a number. Most numbers are zero whole, which is tested first.
+    pub(crate) fn is_zero(self, w: usize, eight: u64) -> bool
+        requires { ⌜ 8 * w < self .bytes ⌝ }
+        ensures { λ r. ⌜ (r ≡ true → bitAnd (lanesIn self w) eight ≡ 0) ⌝ }
+    {
+        if eight == 0 {
+            return true;
+        }
+        self.lanes(w) & eight == 0
     }
 
     // How many places word w has.

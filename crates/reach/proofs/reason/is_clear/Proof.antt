@@ -5,8 +5,8 @@ use Prim.Native.Nat.{ℕ, _<_}
 use native.Mathlib.Omega.{arith}
 use lib.Bits.{bitAnd}
 use lib.ListN.{getD}
-use borrow.Author.Tests.{eqb-true}
 use borrow.Author.Needs.{needs}
+use Rattle.reach.specs.Span.{lanesIn}
 use Rattle.reach.proofs.Bytes.{and-or, or-zero}
 use Rattle.reach.proofs.Asked.{clear-word}
 use Rattle.reach.proofs.reason.is_clear.Statement.{statement}
@@ -27,8 +27,8 @@ add-eight-bytes c = search needs
 eight-bytes-requires-2 : tie.Need-eight-bytes-requires-2
 eight-bytes-requires-2 c κs = omega (arith, c .before .before .word .ensures .1 .1 (c .if1 .taken))
 
-lanes-requires : tie.Need-lanes-requires
-lanes-requires c κs = search needs
+is-zero-requires : tie.Need-is-zero-requires
+is-zero-requires c κs = search needs
 
 -- every byte is below 256
 small : (c : tie.After-shared-slice-known) (i : ℕ) → getD (c .before .args .reasons .now) i 0 < 256
@@ -41,14 +41,14 @@ returns c h =
     let k = e .before .before in
     let a = k .before .args in
     let at = e .before .word .ensures .0 in
-    let l = c .lanes .result in
-    let z = or-zero (bitAnd l (e .eight-bytes .result)) (bitAnd l (f .eight-bytes2 .result)) (sym (and-or l _ _) ∙ eqb-true _ _ h) in
+    let l = lanesIn (a .span) (a .w) in
+    let z = or-zero (bitAnd l (e .eight-bytes .result)) (bitAnd l (f .eight-bytes2 .result)) (sym (and-or l _ _) ∙ c .is-zero .ensures h) in
     clear-word _ (a .span) (a .w) (small k)
-    (rw (← at, ← e .eight-bytes .ensures, ← c .lanes .ensures) (z .0))
-    (λ t. rw (← at, ← f .eight-bytes2 .ensures, ← c .lanes .ensures) (z .1))
+    (rw (← at, ← e .eight-bytes .ensures) (z .0))
+    (λ t. rw (← at, ← f .eight-bytes2 .ensures) (z .1))
 
-lanes-requires-2 : tie.Need-lanes-requires-2
-lanes-requires-2 c κs = search needs
+is-zero-requires-2 : tie.Need-is-zero-requires-2
+is-zero-requires-2 c κs = search needs
 
 returns-2 : tie.Need-returns-2
 returns-2 c h =
@@ -56,7 +56,7 @@ returns-2 c h =
     let k = e .before .before in
     let a = k .before .args in
     clear-word _ (a .span) (a .w) (small k)
-    (rw (← e .before .word .ensures .0, ← e .eight-bytes .ensures, ← c .lanes2 .ensures) (eqb-true _ _ h))
+    (rw (← e .before .word .ensures .0, ← e .eight-bytes .ensures) (c .is-zero2 .ensures h))
     (λ t. absurd (true≢false (sym t ∙ c .before .if1 .left)))
 
 pub is-clear-spec : {M : Type 1} → statement M
@@ -68,7 +68,7 @@ is-clear-spec =
     eight-bytes-requires
     add-eight-bytes
     eight-bytes-requires-2
-    lanes-requires
+    is-zero-requires
     returns
-    lanes-requires-2
+    is-zero-requires-2
     returns-2)
