@@ -222,7 +222,7 @@ tk_load_answer tk_load_tlut(TK_LOAD_PARAMETERS, uint32_t count, uint32_t rows, u
 /* ---- Rejected loads ------------------------------------------------------------------------------------------------- */
 
 /* For a load whose source the capture rig rejected. It can still be replayed into the bank, and leaves a reason behind; later one
- * can ask whether a picture touches such bytes, and why they were rejected (tk_rejection).
+ * can ask whether the tile of a picture touches such bytes, and why they were rejected (tk_rejection).
  *
  * A rejected load stores and counts as the load of the same name does, and takes a number like it. But at each address where it
  * stores it sets the reasons to `reason`, 1..TK_REASON_MOST. What a reason means is the caller's affair. It stays until another
@@ -238,8 +238,8 @@ tk_load_answer tk_reject_tile(TK_LOAD_PARAMETERS, uint32_t rows, uint32_t words,
 tk_load_answer tk_reject_tlut(TK_LOAD_PARAMETERS, uint32_t count, uint32_t rows, uint32_t stride, uint32_t reason,
                               uint32_t last);
 
-/* Whether a picture of the tile can touch bytes of a rejected load, and why it was rejected: the reason at the first address that
- * has one, 0 where none has. The addresses are asked in this order:
+/* Whether the tile touches bytes of a rejected load, and why that was rejected: the reason at the first address that has one, 0
+ * where none has. The addresses are asked in this order:
  *
  * 1. Those that tk_reach marks: row by row, and in a row from its first byte on. On odd rows the two halves of each word have
  *    changed places, so bytes 4 to 7 of a word come before 0 to 3. In modes 0 and 1, with fmt 0 and siz 3, each address a below

@@ -342,7 +342,7 @@ impl Bench {
         self.row(format!("has-load, nothing written, {name}"), pair);
     }
 
-    /// Maps in which all is to be asked: without reasons; with one at the last address that is asked; and with reasons where the tile does not
+    /// Maps in which all is asked: without reasons; with one at the last address that is asked; and with reasons where the tile does not
     /// reach, in words of which it reaches other bytes.
     fn rejections(&mut self) {
         let whole =

@@ -1,6 +1,6 @@
 /* An example: load a block, make a picture of it, write the picture as a file and read it back, cut the picture's key, and print
  * the bytes that the key keeps. Then load one word anew, and print which load each byte that the picture reads came from. Then do
- * a load whose source was rejected, and ask which pictures it touches. Then replay a capture of the first load and the key, and
+ * a load whose source was rejected, and ask which tiles touch it. Then replay a capture of the first load and the key, and
  * split six captures of the tile. */
 
 #include <inttypes.h>
@@ -87,8 +87,8 @@ int main(void) {
     }
     printf("\n");
 
-    /* The second row once more, from a source that the capture rig rejected; 7 is why, by its own list. A picture of both rows
-     * touches such bytes, and one of the first row alone does not. */
+    /* The second row once more, from a source that the capture rig rejected; 7 is why, by its own list. The tile of both rows
+     * touches such bytes, one of the first row alone does not. */
     loaded = tk_reject_block_of(bank, written, reasons, source, 8, &load, 2, 0, 1, 7, loaded.number);
     if (refused("rejected load", loaded.refusal)) return 1;
     print_load(loaded);

@@ -316,12 +316,11 @@ impl Bank {
         slices::tile_has_load(tile, self.written.bytes())
     }
 
-    /// Whether a picture of the tile can touch bytes of a rejected load, and why that was rejected: the reason at the first address
-    /// that has one.
+    /// Whether the tile touches bytes of a rejected load, and why that was rejected: the reason at the first address that has one.
     ///
     /// The addresses that the tile can reach ([`Tile::reach`]) are asked first, row by row; on odd rows bytes 4 to 7 of each word before
     /// 0 to 3, and where (0,3) reaches both halves of the bank each address before the one 2,048 further on. In modes 2 and 3 those of
-    /// the palette follow, rising: the 128 bytes of the tile's palette for `siz` 0, else the upper half. A picture may read fewer.
+    /// the palette follow, rising: the 128 bytes of the tile's palette for `siz` 0, else the upper half.
     ///
     /// ```
     /// use tulonkasa::{Bank, Tile};

@@ -71,8 +71,13 @@ fn smaller_runs(run: &Run) -> impl Iterator<Item = Run> + '_ {
 fn smaller_records(run: &Run, i: usize) -> impl Iterator<Item = Run> + '_ {
     let record = run.records[i];
     let exact = (record.surplus != 0).then_some(Record { surplus: 0, ..record });
-    let ordinary = record.reason.map(|_| Record { reason: None, ..record });
-    let least = record.reason.filter(|&reason| reason > 1).map(|_| Record { reason: Some(1), ..record });
+    let smaller_reasons = record.reason.into_iter().flat_map(|reason| smaller_numbers(reason.into()));
+    let reasons = record.reason.map(|_| None).into_iter().chain(smaller_reasons.map(|reason| Some(reason as u32)));
+    let reasons = reasons.map(move |reason| {
+        let mut record = record;
+        record.reason = reason;
+        record
+    });
     let bytes = (0..RECORD_BYTES).flat_map(move |place| {
         smaller_numbers(record.bytes[place].into()).map(move |smaller| {
             let mut record = record;
@@ -80,7 +85,7 @@ fn smaller_records(run: &Run, i: usize) -> impl Iterator<Item = Run> + '_ {
             record
         })
     });
-    exact.into_iter().chain(ordinary).chain(least).chain(bytes).map(move |record| {
+    exact.into_iter().chain(reasons).chain(bytes).map(move |record| {
         let mut run = run.clone();
         run.records[i] = record;
         run
