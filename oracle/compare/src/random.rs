@@ -142,9 +142,9 @@ impl Random {
         let row_bytes = (tile.width << tile.siz.min(2)) / 2;
         let row = tile.tmem_addr + self.to(tile.height.min(3)) * tile.line;
         match self.to(7) {
-            0 => 4096,
-            1 => self.to(4095),
-            2 | 3 => (2047 + 128 * tile.palette + self.near(129)).min(4095),
+            0..=2 => 4096,
+            3 => self.to(4095),
+            4 => (2047 + 128 * tile.palette + self.near(129)).min(4095),
             _ => (8 * row + self.near(row_bytes + 1) + self.pick(&[0, 0, 0, 2048])) % 4096,
         }
     }

@@ -304,45 +304,43 @@ fn rejected_loads(cases: &mut Vec<Case>) {
     }
 }
 
-/// No address, that has a reason: for the second and third of a question.
+/// In place of an address that has a reason.
 const NONE: u32 = 4096;
 
-/// One reason, or two, at the ends of what a tile reaches, of its words, rows and halves, and of its palette; in every pair and mode.
+/// No reason, one, or two at the ends of what a tile touches, in every pair and mode.
 fn reasons_in_reach(cases: &mut Vec<Case>) {
     for pair in 0..32 {
         for mode in 0..4 {
             for [width, height, line, tmem_addr, masks] in REASONED {
                 let (fmt, siz, palette) = (pair / 4, pair % 4, pair % 16);
                 let tile = Tile { fmt, siz, palette, mode, masks, line, tmem_addr, width, height, ..Tile::default() };
-                let (start, row, row_bytes) = (8 * tmem_addr, 8 * line, (width << siz.min(2)).div_ceil(2));
-                let own = 2048 + 128 * palette;
-                let places = [
-                    start,
-                    start + 1,
-                    start + 3,
-                    start + 4,
-                    start + 2048,
-                    start + row_bytes - 1,
-                    start + row_bytes,
-                    start + row,
-                    start + row + 3,
-                    start + row + 4,
-                    start + row + row_bytes - 1,
-                    start + 2 * row,
-                    0,
-                    2048,
-                    own,
-                    own + 127,
-                    4095,
-                ];
-                let of = |numbers: [u32; 3]| Case { fill: Fill::Zero, numbers, ..Case::new(Call::Rejection, tile) };
-                let places = places.map(|place| place % 4096);
-                let pairs = places.iter().flat_map(|&one| places.iter().map(move |&other| [one, other, NONE]));
-                cases.extend(pairs.map(of));
-                cases.push(of([NONE; 3]));
+                cases.push(question(tile, [NONE; 3]));
+                let places = ends(&tile);
+                for (i, &one) in places.iter().enumerate() {
+                    cases.push(question(tile, [one, NONE, NONE]));
+                    // The larger reason stands at the one or at the other.
+                    cases.extend(places[..i].iter().enumerate().map(|(j, &other)| match (i + j) % 2 {
+                        0 => question(tile, [one, other, NONE]),
+                        _ => question(tile, [other, one, NONE]),
+                    }));
+                }
             }
         }
     }
+}
+
+/// Addresses at the ends of a tile's words, rows and halves, and of its palette.
+fn ends(tile: &Tile) -> Vec<u32> {
+    let (start, row, row_bytes) = (8 * tile.tmem_addr, 8 * tile.line, (tile.width << tile.siz.min(2)).div_ceil(2));
+    let (second, own) = (start + row, 2048 + 128 * tile.palette);
+    let reached = [0, 1, 3, 4, row_bytes - 1, row_bytes, row, 2 * row, 2048].map(|ahead| start + ahead);
+    let others = [second + 3, second + 4, second + row_bytes - 1, 0, 2048, own, own + 127, 4095];
+    reached.into_iter().chain(others).map(|address| address % 4096).collect()
+}
+
+/// The question of a tile, with reasons at some addresses alone.
+fn question(tile: Tile, numbers: [u32; 3]) -> Case {
+    Case { fill: Fill::Zero, numbers, ..Case::new(Call::Rejection, tile) }
 }
 
 /// One reason at each end of every palette and beside it, in every size and mode.
@@ -351,10 +349,8 @@ fn reasons_in_palettes(cases: &mut Vec<Case>) {
         let own = 2048 + 128 * palette;
         for (siz, mode) in (0..16).map(|both| (both / 4, both % 4)) {
             let tile = Tile { fmt: 2, siz, palette, mode, width: 3, height: 2, line: 1, ..Tile::default() };
-            for place in [own - 1, own, own + 63, own + 64, own + 127, own + 128] {
-                let case = Case::new(Call::Rejection, tile);
-                cases.push(Case { fill: Fill::Zero, numbers: [place, NONE, NONE], ..case });
-            }
+            let places = [own - 1, own, own + 63, own + 64, own + 127, own + 128];
+            cases.extend(places.map(|place| question(tile, [place, NONE, NONE])));
         }
     }
 }
