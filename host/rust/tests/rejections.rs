@@ -47,6 +47,18 @@ fn a_rejected_load_leaves_its_reason_exactly_there_and_does_the_rest_as_any_load
 }
 
 #[test]
+fn texels_of_32_bits_leave_reasons_in_parts_of_words() {
+    let texels = Tile { siz: 3, ..WORD };
+    let reasoned = |bank: &Bank| (0..REASON_BYTES).filter(|&address| bank.reasons()[address] != 0).collect::<Vec<_>>();
+    let mut bank = Bank::new();
+    bank.reject_block(&[], &texels, 3, 0, 1, 7).unwrap();
+    assert_eq!(reasoned(&bank), [16, 17, 18, 19, 2064, 2065, 2066, 2067]);
+    bank.reject_block(&[], &WORD, 2, 0, 1, 8).unwrap(); // 16 to 23
+    bank.load_block(&[], &texels, 3, 0, 1).unwrap();
+    assert_eq!(reasoned(&bank), [20, 21, 22, 23]);
+}
+
+#[test]
 fn other_reasons_are_refused_and_change_nothing() {
     for load in LOADS {
         for reason in NOT_TAKEN {
