@@ -1,10 +1,10 @@
 /* Tulonkasa: the texture memory of a cartridge game console, as a C library.
  *
  * The texture memory is a bank of 4,096 bytes. The library loads it (block, tile, palette) and records which load wrote each
- * byte. It makes pictures of the bank, says which of its bytes a tile can reach, and cuts a key for a picture: the bank with
- * the bytes kept that making its visible part reads, and all others zero. It writes a picture as a file for other programs,
- * and reads such files. It replays a capture, which is a file of records of such loads and keys. It also splits captures into
- * tuning and held-out ones by their keys.
+ * byte, and the reason if that load's source was rejected. It makes pictures of the bank, says which of its bytes a tile can
+ * reach, and cuts a key for a picture: the bank with the bytes kept that making its visible part reads, and all others zero.
+ * It writes a picture as a file for other programs, and reads such files. It replays a capture, which is a file of records of
+ * such loads and keys. It also splits captures into tuning and held-out ones by their keys.
  *
  * Rules that hold for every call:
  *
@@ -12,8 +12,8 @@
  *   no state of its own, so calls on different buffers may run at the same time.
  * - Buffers of one call must not overlap. A buffer of length 0 may have a null pointer.
  * - Every number is taken. One that is out of range, or a buffer of a wrong length, is refused with a number (TK_REFUSED_..
- *   below). Each call tests only what it has a use for, in this order: 1, 8, 10, 2, 3, 4, 11, 5, 12, 6, 7, 9, 18. Two calls
- *   have an order of their own: tk_read_pam 13, 14, 2, 15, 6; tk_split 16, 17.
+ *   below). Each call tests only what it has a use for, in this order: 1, 8, 10, 2, 3, 4, 11, 5, 12, 6, 7, 9, 19, 18. Two
+ *   calls have an order of their own: tk_read_pam 13, 14, 2, 15, 6; tk_split 16, 17.
  * - A refused call changes no buffer. Its other answers are 0, but the number of a load or of a replayed record, which is then
  *   the one that was passed.
  * - Success is the refusal 0, TK_DONE.
@@ -37,12 +37,14 @@ extern "C" {
 
 #define TK_BANK_BYTES 4096     /* a bank, and a key */
 #define TK_WRITTEN_BYTES 8192  /* a written record: two bytes an address, high byte first (see Loads) */
+#define TK_REASON_BYTES 4096   /* the reasons of rejected loads: a byte an address, 0 for none (see Rejected loads) */
 #define TK_MAP_BYTES 512       /* a reach map: address a is bit a % 8 of byte a / 8 */
 #define TK_LANE_MAP_BYTES 32   /* a lane map: slot j is bit j % 8 of byte j / 8 */
 #define TK_PALETTE_BASE 2048   /* where the palette begins in a bank */
 #define TK_LOOKUP_TEXELS 16384 /* the texels of a lookup */
 #define TK_SOURCE_MOST 65536   /* a load's source has at most this many bytes */
 #define TK_LOADS_MOST 65535    /* so many loads have numbers, 1 to this */
+#define TK_REASON_MOST 255     /* a rejected load has a reason from 1 to this */
 #define TK_SIDE_MOST 1024      /* width and height, of a tile or a picture, are at most this */
 #define TK_TEXEL_READS_MOST 4  /* a texel reads at most this many bytes of the bank */
 #define TK_RECORD_BYTES 48     /* a record of a capture */
@@ -56,7 +58,7 @@ extern "C" {
 
 enum {
     TK_DONE = 0,                 /* not refused */
-    TK_REFUSED_LENGTH = 1,       /* a bank, key, written record, reach map or lane map has not its length, as above */
+    TK_REFUSED_LENGTH = 1,       /* a bank, key, written record, reach map, lane map or the reasons have not their length */
     TK_REFUSED_TILE = 2,         /* a field of the tile is out of range, or a side of a picture is above TK_SIDE_MOST */
     TK_REFUSED_MODE_OR_LANE = 3, /* mode or lane is above 3 */
     TK_REFUSED_LOAD = 4,         /* a number of the load, or the length of its source, is out of range */
@@ -73,7 +75,8 @@ enum {
     TK_REFUSED_TEXELS = 15,      /* a file has fewer texel bytes than its header calls for */
     TK_REFUSED_COUNT = 16,       /* the count of a split's entries is above TK_ENTRIES_MOST */
     TK_REFUSED_ENTRIES = 17,     /* a split's entries are not TK_ENTRY_BYTES each, or its sides not one byte each */
-    TK_REFUSED_NUMBER = 18       /* no number is left for a load: the last one passed is above 65,534 */
+    TK_REFUSED_NUMBER = 18,      /* no number is left for a load: the last one passed is above 65,534 */
+    TK_REFUSED_REASON = 19       /* the reason of a rejected load is 0, or above TK_REASON_MOST */
 };
 
 /* ---- Answers -------------------------------------------------------------------------------------------------------- */
@@ -126,6 +129,12 @@ typedef struct tk_yes_answer {
     uint32_t yes;
 } tk_yes_answer;
 
+/* reason: of a rejected load, 1 to TK_REASON_MOST; 0 for none */
+typedef struct tk_reason_answer {
+    uint32_t refusal;
+    uint32_t reason;
+} tk_reason_answer;
+
 /* tuning, held_out: how many entries are on each side. They add up to the count of entries. */
 typedef struct tk_split_answer {
     uint32_t refusal;
@@ -163,34 +172,39 @@ typedef struct tk_tile {
 
 /* ---- Loads ---------------------------------------------------------------------------------------------------------- */
 
-/* A load stores bytes of the source into the bank, and its number at each stored address of the written record.
- * The source has 0 to 65,536 bytes; past its end zeros are made up. Of the tile a load takes fmt, siz, line and tmem_addr.
- * image_siz, 0..3, is the size of the image that is loaded from. On odd rows the two halves of each word change places, as
- * making a picture expects.
+/* A load stores bytes of the source into the bank. At each address where it stores it sets the written record to its number, and
+ * the reasons to 0. The source has 0 to 65,536 bytes; past its end zeros are made up. Of the tile a load takes fmt, siz, line and
+ * tmem_addr. image_siz, 0..3, is the size of the image that is loaded from. On odd rows the two halves of each word change
+ * places, as making a picture expects.
  *
  * The written record holds for each address the number of the last load that stored there, 0 for none: bytes 2 a and 2 a + 1 for
  * address a, high byte first. tk_written_by reads it. An address counts as written when its number is not 0.
  *
  * Loads are numbered from 1 on, beginning with a record of zeros. The library keeps no state, so the caller keeps the number of
  * the last load: `last` is that number, 0 before the first, and the load stores and answers the one after it. A load that stores
- * nothing takes a number too; a refused one takes none, and answers the number passed. So the number answered is always the one to
- * pass to the next load with this bank and record. Nothing ties `last` to what the record holds.
+ * nothing takes a number too; a refused one takes none, and answers the number passed. So the number answered is always the one
+ * to pass to the next load with this bank and record. Nothing ties `last` to what the record holds.
  *
  * The last number is 65,535. A load to which a number above 65,534 is passed is refused by 18: to go on, begin with a record of
  * zeros and a `last` of 0.
  *
- * Refuses 1 (bank, written), 2, 4, 18 (last). Answers the count of stores, how many of their bytes were made up, and the number. */
+ * The reasons say for each address why the source of the last load that stored there was rejected: byte a for address a, 0 where
+ * it was not. They begin as zeros. Where no load is rejected they stay so.
+ *
+ * Refuses 1 (bank, written, reasons), 2, 4, 18 (last). Answers the count of stores, how many of their bytes were made up, and the
+ * number. */
+
+/* What every load takes first: the buffers, of which it changes the first three; the tile's four numbers; the image's size. */
+#define TK_LOAD_PARAMETERS                                                                                               \
+    uint8_t *bank, size_t bank_length, uint8_t *written, size_t written_length, uint8_t *reasons, size_t reasons_length, \
+        const uint8_t *source, size_t source_length, uint32_t fmt, uint32_t siz, uint32_t line, uint32_t tmem_addr,      \
+        uint32_t image_siz
 
 /* words: 0..2,048 words of eight bytes in a row. dxt: 0..4,095, added up word by word; each 2,048 begins a new row. */
-tk_load_answer tk_load_block(uint8_t *bank, size_t bank_length, uint8_t *written, size_t written_length,
-                             const uint8_t *source, size_t source_length, uint32_t fmt, uint32_t siz, uint32_t line,
-                             uint32_t tmem_addr, uint32_t image_siz, uint32_t dxt, uint32_t words, uint32_t last);
+tk_load_answer tk_load_block(TK_LOAD_PARAMETERS, uint32_t dxt, uint32_t words, uint32_t last);
 
 /* rows: 0..1,024. words: 0..512, of eight bytes, in each row. stride: 0..65,535 source bytes from row to row. */
-tk_load_answer tk_load_tile(uint8_t *bank, size_t bank_length, uint8_t *written, size_t written_length,
-                            const uint8_t *source, size_t source_length, uint32_t fmt, uint32_t siz, uint32_t line,
-                            uint32_t tmem_addr, uint32_t image_siz, uint32_t rows, uint32_t words, uint32_t stride,
-                            uint32_t last);
+tk_load_answer tk_load_tile(TK_LOAD_PARAMETERS, uint32_t rows, uint32_t words, uint32_t stride, uint32_t last);
 
 /* A palette: an entry of two bytes is stored four times over. count: 0..1,024 entries a row. rows: 1..1,024. stride:
  * 0..65,535 source bytes from row to row.
@@ -203,10 +217,38 @@ tk_load_answer tk_load_tile(uint8_t *bank, size_t bank_length, uint8_t *written,
  *
  * Several rows, or an image of size 0, store entry i of row r from byte 8 tmem_addr + 32 r line + 8 i on, wrapped at the
  * bank's end: rows step 32 line. Here fmt and siz have no effect. */
-tk_load_answer tk_load_tlut(uint8_t *bank, size_t bank_length, uint8_t *written, size_t written_length,
-                            const uint8_t *source, size_t source_length, uint32_t fmt, uint32_t siz, uint32_t line,
-                            uint32_t tmem_addr, uint32_t image_siz, uint32_t count, uint32_t rows, uint32_t stride,
-                            uint32_t last);
+tk_load_answer tk_load_tlut(TK_LOAD_PARAMETERS, uint32_t count, uint32_t rows, uint32_t stride, uint32_t last);
+
+/* ---- Rejected loads ------------------------------------------------------------------------------------------------- */
+
+/* For a load whose source the capture rig rejected. It can still be replayed into the bank, and leaves a reason behind; later one
+ * can ask whether the tile of a picture touches such bytes, and why they were rejected (tk_rejection).
+ *
+ * A rejected load stores and counts as the load of the same name does, and takes a number like it. But at each address where it
+ * stores it sets the reasons to `reason`, 1..TK_REASON_MOST. What a reason means is the caller's affair. It stays until another
+ * load stores there: an ordinary one sets 0, a rejected one its own.
+ *
+ * Refuses 1 (bank, written, reasons), 2, 4, 19 (reason), 18 (last). Answers as a load does. */
+
+tk_load_answer tk_reject_block(TK_LOAD_PARAMETERS, uint32_t dxt, uint32_t words, uint32_t reason, uint32_t last);
+
+tk_load_answer tk_reject_tile(TK_LOAD_PARAMETERS, uint32_t rows, uint32_t words, uint32_t stride, uint32_t reason,
+                              uint32_t last);
+
+tk_load_answer tk_reject_tlut(TK_LOAD_PARAMETERS, uint32_t count, uint32_t rows, uint32_t stride, uint32_t reason,
+                              uint32_t last);
+
+/* Whether the tile touches bytes of a rejected load, and why that was rejected: the reason at the first address that has one, 0
+ * where none has. The addresses are asked in this order:
+ *
+ * 1. Those that tk_reach marks: row by row, and in a row from its first byte on. On odd rows the two halves of each word have
+ *    changed places, so bytes 4 to 7 of a word come before 0 to 3. In modes 0 and 1, with fmt 0 and siz 3, each address a below
+ *    2,048 is followed by a + 2,048. A tile that calls for a lookup reaches addresses from 0 on, rising.
+ * 2. In modes 2 and 3 then those of the palette, rising: for siz 0 the 128 from 2,048 + 128 palette on, else all from 2,048 on.
+ *
+ * There is no lane, the pair may be one of which no picture is made, and the written record is not asked.
+ * Refuses 1 (reasons), 2, 3. */
+tk_reason_answer tk_rejection(TK_TILE_PARAMETERS, const uint8_t *reasons, size_t reasons_length);
 
 /* ---- Which picture -------------------------------------------------------------------------------------------------- */
 
@@ -333,18 +375,20 @@ tk_answer tk_key(const uint8_t *bank, size_t bank_length, TK_TILE_PARAMETERS, ui
  *
  * last: the number of the last load, as the loads take it.
  *
- * A load changes bank and written record, and answers the count of stores and its number; how many of the bytes were made up is
- * not answered. A key changes nothing, and answers the count of bytes that tk_key would keep of the bank as it stands; it takes no
- * number, and answers the one passed.
- * Refuses 1 (bank, written), 8, 10; then a load 2, 4 (length above 65,536 too), 11 (offset + length above end, or a part
- * shorter than length), 18 (last); and a key 2, 3, 5, 9.
+ * A load changes bank, written record and reasons, and answers the count of stores and its number; how many of the bytes were
+ * made up is not answered. A record has no reason, so its load is an ordinary one, and sets the reasons to 0 where it stores; a
+ * load that is to be rejected is done by its own call, in between. A key changes nothing, and answers the count of bytes that
+ * tk_key would keep of the bank as it stands; it takes no number, and answers the one passed.
+ * Refuses 1 (bank, written, reasons), 8, 10; then a load 2, 4 (length above 65,536 too), 11 (offset + length above end, or a
+ * part shorter than length), 18 (last); and a key 2, 3, 5, 9.
  *
- * A capture is replayed by a call for each record in turn, beginning with a bank and a written record of zeros and a `last` of 0;
- * each call then gets the number that the one before it answered. A refusal does not stop a replay: that record changes nothing and
- * takes no number. After the 65,535th load each further one is refused by 18, unless by another number before it, and keys go on. */
+ * A capture is replayed by a call for each record in turn, beginning with a bank, a written record and reasons of zeros and a
+ * `last` of 0; each call then gets the number that the one before it answered. A refusal does not stop a replay: that record
+ * changes nothing and takes no number. After the 65,535th load each further one is refused by 18, unless by another number before
+ * it, and keys go on. */
 tk_replay_answer tk_replay_record(uint8_t *bank, size_t bank_length, uint8_t *written, size_t written_length,
-                                  const uint8_t *record, size_t record_length, uint64_t end, const uint8_t *part,
-                                  size_t part_length, uint32_t last);
+                                  uint8_t *reasons, size_t reasons_length, const uint8_t *record, size_t record_length,
+                                  uint64_t end, const uint8_t *part, size_t part_length, uint32_t last);
 
 /* ---- Tuning and held out -------------------------------------------------------------------------------------------- */
 
@@ -379,28 +423,49 @@ tk_split_answer tk_split(uint32_t count, const uint8_t *entries, size_t entries_
 
 /* ---- The same calls on a tk_tile ------------------------------------------------------------------------------------ */
 
-/* Here a bank or key is a pointer to TK_BANK_BYTES, a written record to TK_WRITTEN_BYTES, a reach map to TK_MAP_BYTES, a lane map
- * to TK_LANE_MAP_BYTES, a capture's record to TK_RECORD_BYTES, entries to TK_ENTRY_BYTES each, sides to a byte each. */
+/* Here a bank or key is a pointer to TK_BANK_BYTES, a written record to TK_WRITTEN_BYTES, reasons to TK_REASON_BYTES, a reach map
+ * to TK_MAP_BYTES, a lane map to TK_LANE_MAP_BYTES, a capture's record to TK_RECORD_BYTES, entries to TK_ENTRY_BYTES each, sides
+ * to a byte each. */
 
-static inline tk_load_answer tk_load_block_of(uint8_t *bank, uint8_t *written, const uint8_t *source, size_t source_length,
-                                              const tk_tile *tile, uint32_t image_siz, uint32_t dxt, uint32_t words,
-                                              uint32_t last) {
-    return tk_load_block(bank, TK_BANK_BYTES, written, TK_WRITTEN_BYTES, source, source_length, tile->fmt, tile->siz,
-                         tile->line, tile->tmem_addr, image_siz, dxt, words, last);
+/* What every load takes first, here and as it is passed on. */
+#define TK_LOAD_OF_PARAMETERS                                                                                            \
+    uint8_t *bank, uint8_t *written, uint8_t *reasons, const uint8_t *source, size_t source_length, const tk_tile *tile, \
+        uint32_t image_siz
+#define TK_LOAD_OF_ARGUMENTS                                                                                               \
+    bank, TK_BANK_BYTES, written, TK_WRITTEN_BYTES, reasons, TK_REASON_BYTES, source, source_length, tile->fmt, tile->siz, \
+        tile->line, tile->tmem_addr, image_siz
+
+static inline tk_load_answer tk_load_block_of(TK_LOAD_OF_PARAMETERS, uint32_t dxt, uint32_t words, uint32_t last) {
+    return tk_load_block(TK_LOAD_OF_ARGUMENTS, dxt, words, last);
 }
 
-static inline tk_load_answer tk_load_tile_of(uint8_t *bank, uint8_t *written, const uint8_t *source, size_t source_length,
-                                             const tk_tile *tile, uint32_t image_siz, uint32_t rows, uint32_t words,
-                                             uint32_t stride, uint32_t last) {
-    return tk_load_tile(bank, TK_BANK_BYTES, written, TK_WRITTEN_BYTES, source, source_length, tile->fmt, tile->siz,
-                        tile->line, tile->tmem_addr, image_siz, rows, words, stride, last);
+static inline tk_load_answer tk_load_tile_of(TK_LOAD_OF_PARAMETERS, uint32_t rows, uint32_t words, uint32_t stride,
+                                             uint32_t last) {
+    return tk_load_tile(TK_LOAD_OF_ARGUMENTS, rows, words, stride, last);
 }
 
-static inline tk_load_answer tk_load_tlut_of(uint8_t *bank, uint8_t *written, const uint8_t *source, size_t source_length,
-                                             const tk_tile *tile, uint32_t image_siz, uint32_t count, uint32_t rows,
-                                             uint32_t stride, uint32_t last) {
-    return tk_load_tlut(bank, TK_BANK_BYTES, written, TK_WRITTEN_BYTES, source, source_length, tile->fmt, tile->siz,
-                        tile->line, tile->tmem_addr, image_siz, count, rows, stride, last);
+static inline tk_load_answer tk_load_tlut_of(TK_LOAD_OF_PARAMETERS, uint32_t count, uint32_t rows, uint32_t stride,
+                                             uint32_t last) {
+    return tk_load_tlut(TK_LOAD_OF_ARGUMENTS, count, rows, stride, last);
+}
+
+static inline tk_load_answer tk_reject_block_of(TK_LOAD_OF_PARAMETERS, uint32_t dxt, uint32_t words, uint32_t reason,
+                                                uint32_t last) {
+    return tk_reject_block(TK_LOAD_OF_ARGUMENTS, dxt, words, reason, last);
+}
+
+static inline tk_load_answer tk_reject_tile_of(TK_LOAD_OF_PARAMETERS, uint32_t rows, uint32_t words, uint32_t stride,
+                                               uint32_t reason, uint32_t last) {
+    return tk_reject_tile(TK_LOAD_OF_ARGUMENTS, rows, words, stride, reason, last);
+}
+
+static inline tk_load_answer tk_reject_tlut_of(TK_LOAD_OF_PARAMETERS, uint32_t count, uint32_t rows, uint32_t stride,
+                                               uint32_t reason, uint32_t last) {
+    return tk_reject_tlut(TK_LOAD_OF_ARGUMENTS, count, rows, stride, reason, last);
+}
+
+static inline tk_reason_answer tk_rejection_of(const tk_tile *tile, const uint8_t *reasons) {
+    return tk_rejection(TK_TILE_ARGUMENTS(tile), reasons, TK_REASON_BYTES);
 }
 
 static inline tk_sampling_answer tk_sampling_of(const tk_tile *tile) { return tk_sampling(TK_TILE_ARGUMENTS(tile)); }
@@ -451,10 +516,10 @@ static inline tk_answer tk_key_of(const uint8_t *bank, const tk_tile *tile, uint
     return tk_key(bank, TK_BANK_BYTES, TK_TILE_ARGUMENTS(tile), lane, key, TK_BANK_BYTES);
 }
 
-static inline tk_replay_answer tk_replay_record_of(uint8_t *bank, uint8_t *written, const uint8_t *record, uint64_t end,
-                                                   const uint8_t *part, size_t part_length, uint32_t last) {
-    return tk_replay_record(bank, TK_BANK_BYTES, written, TK_WRITTEN_BYTES, record, TK_RECORD_BYTES, end, part, part_length,
-                            last);
+static inline tk_replay_answer tk_replay_record_of(uint8_t *bank, uint8_t *written, uint8_t *reasons, const uint8_t *record,
+                                                   uint64_t end, const uint8_t *part, size_t part_length, uint32_t last) {
+    return tk_replay_record(bank, TK_BANK_BYTES, written, TK_WRITTEN_BYTES, reasons, TK_REASON_BYTES, record,
+                            TK_RECORD_BYTES, end, part, part_length, last);
 }
 
 static inline tk_split_answer tk_split_of(uint32_t count, const uint8_t *entries, uint8_t *sides) {

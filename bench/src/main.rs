@@ -9,7 +9,7 @@ use original::TileDescriptor;
 use std::hint::black_box;
 use std::process::ExitCode;
 use timing::{race, Pair};
-use tulonkasa::{slices, Tile, LOOKUP_TEXELS, SIDE_MOST, WRITTEN_BYTES};
+use tulonkasa::{slices, Tile, LOOKUP_TEXELS, REASON_BYTES, SIDE_MOST, WRITTEN_BYTES};
 
 /// The goals for the ratios of archive to original.
 const GOAL: f64 = 0.5;
@@ -242,26 +242,25 @@ impl Bench {
         let old = descriptor(&tile);
         let source = bytes(16384);
         let mut memory = Memory::new(&self.bank);
-        let (mut bank, mut written) = (self.bank, [0; WRITTEN_BYTES]);
+        let (mut bank, mut written, mut reasons) = (self.bank, [0; WRITTEN_BYTES], [0; REASON_BYTES]);
         let number = |number: usize| number as u32;
         let pair = race(
             self.rounds,
             || black_box(&mut memory).load(black_box(&source), black_box(&old), image_siz as u8, load),
             || {
-                let (bank, written, source, tile) =
-                    (black_box(&mut bank), black_box(&mut written), black_box(&source), black_box(&tile));
-                let last = &mut black_box(1000);
+                let (bank, written, reasons) = (black_box(&mut bank), black_box(&mut written), black_box(&mut reasons));
+                let (source, tile, last) = (black_box(&source), black_box(&tile), &mut black_box(1000));
                 black_box(match load {
                     Load::Block { dxt, words } => {
-                        slices::load_block(bank, written, source, tile, image_siz, dxt, number(words), last)
+                        slices::load_block(bank, written, reasons, source, tile, image_siz, dxt, number(words), last)
                     }
                     Load::Tile { rows, words, stride } => {
                         let (rows, words, stride) = (number(rows), number(words), number(stride));
-                        slices::load_tile(bank, written, source, tile, image_siz, rows, words, stride, last)
+                        slices::load_tile(bank, written, reasons, source, tile, image_siz, rows, words, stride, last)
                     }
                     Load::Tlut { count, rows, stride } => {
                         let (count, rows, stride) = (number(count), number(rows), number(stride));
-                        slices::load_tlut(bank, written, source, tile, image_siz, count, rows, stride, last)
+                        slices::load_tlut(bank, written, reasons, source, tile, image_siz, count, rows, stride, last)
                     }
                 })
                 .expect("in range");
@@ -284,6 +283,7 @@ impl Bench {
         ] {
             self.reach_and_has_load(name, &tile);
         }
+        self.rejections();
         for (name, tile) in [
             ("16-bit tile of 64 by 64", square(0, 2, 0)),
             ("8-bit tile of 64 by 64", square(4, 1, 0)),
@@ -340,6 +340,43 @@ impl Bench {
             black_box(slices::tile_has_load(black_box(tile), black_box(&written))).expect("in range");
         });
         self.row(format!("has-load, nothing written, {name}"), pair);
+    }
+
+    /// Maps in which all is asked: without reasons; with one at the last address that is asked; and with reasons where the tile does not
+    /// reach, in words of which it reaches other bytes.
+    fn rejections(&mut self) {
+        let whole =
+            [("16-bit tile of 64 by 64", square(0, 2, 0), 4091), ("palette tile of 64 by 64", square(2, 1, 2), 4095)];
+        for (name, tile, last) in whole {
+            self.rejection(&format!("no reasons, {name}"), &tile, |_| false);
+            self.rejection(&format!("a reason at the end, {name}"), &tile, |address| address == last);
+        }
+        let narrow = |fmt, mode| Tile { line: 2, width: 13, height: 256, ..square(fmt, 1, mode) };
+        let tiles = [("8-bit tile of 13 by 256", narrow(4, 0)), ("palette tile of 13 by 256", narrow(2, 2))];
+        for (name, tile) in tiles {
+            let reach = tile.reach().expect("in range");
+            let beside = |address: usize| !reach.is_marked(address) && (tile.mode < 2 || address < 2048);
+            self.rejection(&format!("reasons beside the reach, {name}"), &tile, beside);
+        }
+        let between = |address| address < 2048 && address % 2 == 1;
+        self.rejection("reasons between the indices, 16-bit palette tile of 64 by 64", &square(2, 2, 2), between);
+    }
+
+    /// With a reason at each address that is chosen.
+    fn rejection(&mut self, name: &str, tile: &Tile, chosen: impl Fn(usize) -> bool) {
+        let (old, mode) = (descriptor(tile), tile.mode as u8);
+        let reasons = std::array::from_fn(|address| u8::from(chosen(address)));
+        let mut memory = Memory::fresh();
+        memory.set_reasons(&reasons);
+        assert_eq!(slices::rejection(tile, &reasons), Ok(memory.rejection(&old, mode)));
+        let pair = race(
+            self.rounds,
+            || used(black_box(&memory).rejection(black_box(&old), mode)),
+            || {
+                black_box(slices::rejection(black_box(tile), black_box(&reasons))).expect("in range");
+            },
+        );
+        self.row(format!("rejection, {name}"), pair);
     }
 
     fn key(&mut self, name: &str, tile: &Tile) {

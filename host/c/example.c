@@ -1,6 +1,7 @@
 /* An example: load a block, make a picture of it, write the picture as a file and read it back, cut the picture's key, and print
- * the bytes that the key keeps. Then load one word anew, and print which load each byte that the picture reads came from. Then
- * replay a capture of the first load and the key, and split six captures of the tile. */
+ * the bytes that the key keeps. Then load one word anew, and print which load each byte that the picture reads came from. Then do
+ * a load whose source was rejected, and ask which tiles touch it. Then replay a capture of the first load and the key, and
+ * split six captures of the tile. */
 
 #include <inttypes.h>
 #include <stdio.h>
@@ -14,8 +15,13 @@ static int refused(const char *what, uint32_t refusal) {
     return refusal != TK_DONE;
 }
 
+static void print_load(tk_load_answer loaded) {
+    printf("load %" PRIu32 ": stores: %" PRIu32 ", made up: %" PRIu32 "\n", loaded.number, loaded.count, loaded.made_up);
+}
+
 int main(void) {
-    static uint8_t bank[TK_BANK_BYTES], written[TK_WRITTEN_BYTES], key[TK_BANK_BYTES], picture[4 * 4 * 2];
+    static uint8_t bank[TK_BANK_BYTES], written[TK_WRITTEN_BYTES], reasons[TK_REASON_BYTES];
+    static uint8_t key[TK_BANK_BYTES], picture[4 * 4 * 2];
     static uint8_t file[TK_PAM_HEADER_MOST + sizeof picture], again[sizeof file];
 
     /* Two rows of four texels of 16 bits: red, green, magenta and white, then the same backwards. */
@@ -32,10 +38,9 @@ int main(void) {
     load.line = 0; /* a block load steps through memory on its own */
 
     /* Two words; a dxt of 2,048 begins a new row at each. No load was before this one, so the last number is 0. */
-    tk_load_answer loaded = tk_load_block_of(bank, written, source, sizeof source, &load, 2, 2048, 2, 0);
+    tk_load_answer loaded = tk_load_block_of(bank, written, reasons, source, sizeof source, &load, 2, 2048, 2, 0);
     if (refused("load", loaded.refusal)) return 1;
-    printf("load %" PRIu32 ": stores: %" PRIu32 ", made up: %" PRIu32 "\n", loaded.number, loaded.count,
-           loaded.made_up); /* the source is whole: 0 */
+    print_load(loaded); /* the source is whole, so nothing is made up */
 
     tk_answer made = tk_sample_tile_of(bank, &tile, 0, picture, sizeof picture);
     if (refused("picture", made.refusal)) return 1;
@@ -67,9 +72,9 @@ int main(void) {
 
     /* The second row again, from a source that was cut short. The number of the load before is passed. */
     load.tmem_addr = 1;
-    loaded = tk_load_block_of(bank, written, source, 6, &load, 2, 0, 1, loaded.number);
+    loaded = tk_load_block_of(bank, written, reasons, source, 6, &load, 2, 0, 1, loaded.number);
     if (refused("load", loaded.refusal)) return 1;
-    printf("load %" PRIu32 ": stores: %" PRIu32 ", made up: %" PRIu32 "\n", loaded.number, loaded.count, loaded.made_up);
+    print_load(loaded);
 
     /* Which load the bytes came from: a trail has two bytes for each read, high byte first. */
     static uint8_t trail[2 * TK_TEXEL_READS_MOST * 4 * 2];
@@ -82,6 +87,17 @@ int main(void) {
     }
     printf("\n");
 
+    /* The second row once more, from a source that the capture rig rejected; 7 is why, by its own list. The tile of both rows
+     * touches such bytes, one of the first row alone does not. */
+    loaded = tk_reject_block_of(bank, written, reasons, source, 8, &load, 2, 0, 1, 7, loaded.number);
+    if (refused("rejected load", loaded.refusal)) return 1;
+    print_load(loaded);
+    tk_tile first_row = tile;
+    first_row.height = 1;
+    tk_reason_answer both = tk_rejection_of(&tile, reasons), first = tk_rejection_of(&first_row, reasons);
+    if (refused("rejection", both.refusal) || refused("rejection", first.refusal)) return 1;
+    printf("rejected: both rows for reason %" PRIu32 ", the first row for %" PRIu32 "\n", both.reason, first.reason);
+
     /* A capture whose companion file is the source above. The bytes that a record does not name here are 0. */
     static const uint8_t capture[2][TK_RECORD_BYTES] = {
         /* kind block, siz 2, image_siz 2, dxt 2,048, two words, a source of sixteen bytes at offset 0 */
@@ -89,11 +105,11 @@ int main(void) {
         /* kind key, siz 2, line 1, width 4, height 2 */
         {[0] = 3, [3] = 2, [11] = 1, [15] = 4, [17] = 2},
     };
-    static uint8_t fresh_bank[TK_BANK_BYTES], fresh_record[TK_WRITTEN_BYTES];
+    static uint8_t fresh_bank[TK_BANK_BYTES], fresh_record[TK_WRITTEN_BYTES], no_reasons[TK_REASON_BYTES];
     uint32_t last = 0;
     for (size_t i = 0; i < 2; i++) {
-        tk_replay_answer done =
-            tk_replay_record_of(fresh_bank, fresh_record, capture[i], sizeof source, source, sizeof source, last);
+        tk_replay_answer done = tk_replay_record_of(fresh_bank, fresh_record, no_reasons, capture[i], sizeof source, source,
+                                                    sizeof source, last);
         last = done.number;
         printf("replayed: %" PRIu32 " %" PRIu32 ", loads so far: %" PRIu32 "\n", done.refusal, done.count, last);
     }

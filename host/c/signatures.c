@@ -6,8 +6,8 @@
 
 #include "tulonkasa.h"
 
-static uint8_t bank[TK_BANK_BYTES], written[TK_WRITTEN_BYTES], map[TK_MAP_BYTES];
-static uint8_t long_record[TK_WRITTEN_BYTES + 1], lanes[TK_LANE_MAP_BYTES], key[TK_BANK_BYTES];
+static uint8_t bank[TK_BANK_BYTES], written[TK_WRITTEN_BYTES], reasons[TK_REASON_BYTES], map[TK_MAP_BYTES];
+static uint8_t long_buffer[TK_WRITTEN_BYTES + 1], lanes[TK_LANE_MAP_BYTES], key[TK_BANK_BYTES];
 static uint8_t picture[4 * TK_LOOKUP_TEXELS], trail[2 * TK_TEXEL_READS_MOST * TK_LOOKUP_TEXELS];
 static uint8_t source[64], part[TK_SOURCE_MOST + 1], file[TK_PAM_HEADER_MOST + 4 * TK_SIDE_MOST];
 static uint8_t entries[(TK_ENTRIES_MOST + 1) * TK_ENTRY_BYTES], sides[TK_ENTRIES_MOST + 1];
@@ -46,11 +46,13 @@ static void check_the_twelve(void) {
         CHECK(tk_sampling_of(&full).refusal == 0);
         CHECK(tk_reach_of(&full, map) == 0);
         CHECK(tk_tile_has_load_of(&full, written).refusal == 0);
+        CHECK(tk_rejection_of(&full, reasons).refusal == 0);
         const tk_tile *bad[] = {&past, &far};
         for (size_t k = 0; k < 2; k++) {
             CHECK(tk_sampling_of(bad[k]).refusal == refusal);
             CHECK(tk_reach_of(bad[k], map) == refusal);
             CHECK(tk_tile_has_load_of(bad[k], written).refusal == refusal);
+            CHECK(tk_rejection_of(bad[k], reasons).refusal == refusal);
             CHECK(tk_sample_tile_of(bank, bad[k], 0, picture, sizeof picture).refusal == refusal);
             CHECK(tk_sample_tile_observed_of(bank, bad[k], 0, picture, sizeof picture, trail, sizeof trail).refusal ==
                   refusal);
@@ -67,36 +69,86 @@ static int answers(tk_load_answer answer, uint32_t refusal, uint32_t number) {
     return answer.refusal == refusal && answer.number == number && (refusal == 0 || answer.count + answer.made_up == 0);
 }
 
-/* Loads: four numbers of the tile, image_siz, the load's own, and the last number, each at its limit and one past it. */
-static void check_loads(void) {
-    static const uint32_t block_most[] = {7, 3, 511, 511, 3, 4095, 2048, 65534};
-    static const uint32_t tile_most[] = {7, 3, 511, 511, 3, 1024, 512, 65535, 65534};
-    static const uint32_t tlut_most[] = {7, 3, 511, 511, 3, 1024, 1024, 65535, 65534};
-    for (size_t i = 0; i < 9; i++) {
-        for (uint32_t past = 0; past < 2; past++) {
-            uint32_t b[8] = {0, 2, 1, 2, 2, 1, 2, 6}, t[9] = {0, 2, 1, 2, 2, 1, 2, 8, 6},
-                     p[9] = {0, 2, 1, 2, 2, 4, 2, 8, 6};
-            uint32_t refusal = past == 0 ? 0 : i < 4 ? 2 : 4, took = past == 0;
-            if (i < 8) {
-                b[i] = block_most[i] + past;
-                CHECK(answers(tk_load_block(bank, sizeof bank, written, sizeof written, source, sizeof source, b[0], b[1],
-                                            b[2], b[3], b[4], b[5], b[6], b[7]),
-                              past == 1 && i == 7 ? 18 : refusal, b[7] + took));
-            }
-            if (past == 1 && i == 8) refusal = 18;
-            t[i] = tile_most[i] + past;
-            CHECK(answers(tk_load_tile(bank, sizeof bank, written, sizeof written, source, sizeof source, t[0], t[1], t[2],
-                                       t[3], t[4], t[5], t[6], t[7], t[8]),
-                          refusal, t[8] + took));
-            p[i] = tlut_most[i] + past;
-            CHECK(answers(tk_load_tlut(bank, sizeof bank, written, sizeof written, source, sizeof source, p[0], p[1], p[2],
-                                       p[3], p[4], p[5], p[6], p[7], p[8]),
-                          refusal, p[8] + took));
+/* The buffers of a load. */
+typedef struct memory {
+    uint8_t *bank;
+    size_t bank_length;
+    uint8_t *written;
+    size_t written_length;
+    uint8_t *reasons;
+    size_t reasons_length;
+    const uint8_t *source;
+    size_t source_length;
+} memory;
+
+static const memory whole = {bank, sizeof bank, written, sizeof written, reasons, sizeof reasons, source, sizeof source};
+
+/* The loads; each is done as an ordinary one or as a rejected one. */
+enum { BLOCK, TILE, TLUT, LOADS };
+
+/* The numbers of a load: four of the tile, image_siz, its own, of which a block has two, and the last number; a reason before it. */
+enum { TILE_NUMBERS = 4, OWN = 5, THIRD = 7, REASON = 8, LAST = 9, NUMBERS = 10 };
+
+static tk_load_answer load(memory m, int kind, int is_rejected, const uint32_t *n) {
+#define FRONT                                                                                                         \
+    m.bank, m.bank_length, m.written, m.written_length, m.reasons, m.reasons_length, m.source, m.source_length, n[0], \
+        n[1], n[2], n[3], n[4]
+    switch (2 * kind + is_rejected) {
+        case 2 * BLOCK: return tk_load_block(FRONT, n[5], n[6], n[9]);
+        case 2 * BLOCK + 1: return tk_reject_block(FRONT, n[5], n[6], n[8], n[9]);
+        case 2 * TILE: return tk_load_tile(FRONT, n[5], n[6], n[7], n[9]);
+        case 2 * TILE + 1: return tk_reject_tile(FRONT, n[5], n[6], n[7], n[8], n[9]);
+        case 2 * TLUT: return tk_load_tlut(FRONT, n[5], n[6], n[7], n[9]);
+        default: return tk_reject_tlut(FRONT, n[5], n[6], n[7], n[8], n[9]);
+    }
+#undef FRONT
+}
+
+/* Numbers that each load takes, and the most that it takes of each. */
+static const uint32_t usual[LOADS][NUMBERS] = {
+    {0, 2, 1, 2, 2, 1, 2, 0, 9, 6}, {0, 2, 1, 2, 2, 1, 2, 8, 9, 6}, {0, 2, 1, 2, 2, 4, 2, 8, 9, 6}};
+static const uint32_t load_most[LOADS][NUMBERS] = {
+    {7, 3, 511, 511, 3, 4095, 2048, 0, TK_REASON_MOST, TK_LOADS_MOST - 1},
+    {7, 3, 511, 511, 3, 1024, 512, 65535, TK_REASON_MOST, TK_LOADS_MOST - 1},
+    {7, 3, 511, 511, 3, 1024, 1024, 65535, TK_REASON_MOST, TK_LOADS_MOST - 1}};
+
+/* Each number of a load at its limit; then one past it and with all 32 bits set, which is answered alike beside a bad reason and a bad
+ * last number, where these are tested later. */
+static void check_load(int kind, int is_rejected) {
+    for (size_t i = 0; i < NUMBERS; i++) {
+        if ((i == THIRD && kind == BLOCK) || (i == REASON && !is_rejected)) continue;
+        uint32_t n[NUMBERS], refusal = i < TILE_NUMBERS ? 2 : i < REASON ? 4 : i == REASON ? 19 : 18;
+        memcpy(n, usual[kind], sizeof n);
+        n[i] = load_most[kind][i];
+        CHECK(answers(load(whole, kind, is_rejected, n), 0, n[LAST] + 1));
+        const uint32_t bad[] = {n[i] + 1, UINT32_MAX};
+        for (size_t k = 0; k < 2; k++) {
+            n[i] = bad[k];
+            CHECK(answers(load(whole, kind, is_rejected, n), refusal, n[LAST]));
+            if (i < REASON) n[REASON] = 0;
+            if (i < LAST) n[LAST] = 65535;
+            CHECK(answers(load(whole, kind, is_rejected, n), refusal, n[LAST]));
         }
     }
-    CHECK(answers(
-        tk_load_tlut(bank, sizeof bank, written, sizeof written, source, sizeof source, 0, 0, 0, 0, 0, 1, 0, 0, 65535), 4,
-        65535));
+}
+
+/* All loads; and at 0 and 1 the numbers that may not be 0: a reason, and the rows of a palette. */
+static void check_loads(void) {
+    for (int kind = 0; kind < LOADS; kind++) {
+        uint32_t n[NUMBERS];
+        memcpy(n, usual[kind], sizeof n);
+        check_load(kind, 0);
+        check_load(kind, 1);
+        n[REASON] = 1;
+        CHECK(answers(load(whole, kind, 1, n), 0, n[LAST] + 1));
+        n[REASON] = 0;
+        CHECK(answers(load(whole, kind, 1, n), 19, n[LAST]));
+        CHECK(answers(load(whole, kind, 0, n), 0, n[LAST] + 1));
+        if (kind != TLUT) continue;
+        n[OWN + 1] = 0;
+        CHECK(answers(load(whole, kind, 0, n), 4, n[LAST]));
+        CHECK(answers(load(whole, kind, 1, n), 4, n[LAST]));
+    }
 }
 
 /* What a record's fields are held against: where each stands, its bytes, the most that a block, tile, palette and key take of
@@ -137,7 +189,7 @@ static const struct {
 static uint32_t replayed_with(uint8_t kind, size_t place, size_t bytes, uint32_t number) {
     uint8_t record[TK_RECORD_BYTES] = {[0] = kind, [5] = 2, [25] = 1};
     for (size_t i = bytes; i > 0; i--, number >>= 8) record[place + i - 1] = (uint8_t)number;
-    return tk_replay_record_of(bank, written, record, sizeof part, part, sizeof part, 0).refusal;
+    return tk_replay_record_of(bank, written, reasons, record, sizeof part, part, sizeof part, 0).refusal;
 }
 
 /* Each field of a record is taken up to its limit and refused past it, and one that a kind does not take may hold anything. */
@@ -160,24 +212,26 @@ static void check_record(void) {
     static const uint8_t record[TK_RECORD_BYTES + 1] = {[30] = 255, [31] = 255, [32] = 255, [33] = 255, [37] = 8};
     static const uint8_t key_of_none[TK_RECORD_BYTES] = {[0] = 3, [3] = 2};
     uint64_t end = 0x100000007;
-    CHECK(tk_replay_record(bank, 4096, written, 8192, record, 48, end, part, 8, 0).refusal == 0);
-    CHECK(tk_replay_record(bank, 4096, written, 8192, record, 49, UINT64_MAX, part, 9, 0).refusal == 0);
-    CHECK(tk_replay_record(bank, 4095, written, 8192, record, 48, end, part, 8, 0).refusal == 1);
-    CHECK(tk_replay_record(bank, 4096, written, 8191, record, 48, end, part, 8, 0).refusal == 1);
-    CHECK(tk_replay_record(bank, 4096, written, 512, record, 48, end, part, 8, 0).refusal == 1);
-    CHECK(tk_replay_record(bank, 4096, written, 8192, record, 47, end, part, 8, 0).refusal == 8);
-    CHECK(tk_replay_record(bank, 4096, written, 8192, record, 48, end - 1, part, 8, 0).refusal == 11);
-    CHECK(tk_replay_record(bank, 4096, written, 8192, record, 48, end, part, 7, 0).refusal == 11);
+    CHECK(tk_replay_record(bank, 4096, written, 8192, reasons, 4096, record, 48, end, part, 8, 0).refusal == 0);
+    CHECK(tk_replay_record(bank, 4096, written, 8192, reasons, 4096, record, 49, UINT64_MAX, part, 9, 0).refusal == 0);
+    CHECK(tk_replay_record(bank, 4095, written, 8192, reasons, 4096, record, 48, end, part, 8, 0).refusal == 1);
+    CHECK(tk_replay_record(bank, 4096, written, 8191, reasons, 4096, record, 48, end, part, 8, 0).refusal == 1);
+    CHECK(tk_replay_record(bank, 4096, written, 512, reasons, 4096, record, 48, end, part, 8, 0).refusal == 1);
+    CHECK(tk_replay_record(bank, 4096, written, 8192, reasons, 4095, record, 48, end, part, 8, 0).refusal == 1);
+    CHECK(tk_replay_record(bank, 4096, written, 8192, long_buffer, 8192, record, 48, end, part, 8, 0).refusal == 1);
+    CHECK(tk_replay_record(bank, 4096, written, 8192, reasons, 4096, record, 47, end, part, 8, 0).refusal == 8);
+    CHECK(tk_replay_record(bank, 4096, written, 8192, reasons, 4096, record, 48, end - 1, part, 8, 0).refusal == 11);
+    CHECK(tk_replay_record(bank, 4096, written, 8192, reasons, 4096, record, 48, end, part, 7, 0).refusal == 11);
 
     static const uint32_t past[] = {65535, 65536, UINT32_MAX};
-    tk_replay_answer answer = tk_replay_record_of(bank, written, record, end, part, 8, 65534);
+    tk_replay_answer answer = tk_replay_record_of(bank, written, reasons, record, end, part, 8, 65534);
     CHECK(answer.refusal == 0 && answer.count == 0 && answer.number == 65535);
     for (size_t i = 0; i < 3; i++) {
-        answer = tk_replay_record_of(bank, written, record, end, part, 8, past[i]);
+        answer = tk_replay_record_of(bank, written, reasons, record, end, part, 8, past[i]);
         CHECK(answer.refusal == 18 && answer.count == 0 && answer.number == past[i]);
-        answer = tk_replay_record_of(bank, written, record, end - 1, part, 8, past[i]);
+        answer = tk_replay_record_of(bank, written, reasons, record, end - 1, part, 8, past[i]);
         CHECK(answer.refusal == 11 && answer.count == 0 && answer.number == past[i]);
-        answer = tk_replay_record_of(bank, written, key_of_none, end, NULL, 0, past[i]);
+        answer = tk_replay_record_of(bank, written, reasons, key_of_none, end, NULL, 0, past[i]);
         CHECK(answer.refusal == 0 && answer.count == 0 && answer.number == past[i]);
     }
 }
@@ -186,19 +240,26 @@ static void check_record(void) {
 static void check_lengths(void) {
     tk_tile tile = plain_tile();
     const tk_tile *t = &tile;
-    /* The two lengths beside the right one; and a reach map's for a written record, and the other way round. */
-    static const size_t bad[] = {8191, 8193, 512};
-    CHECK(tk_load_block(bank, 4095, written, 8192, source, 64, 0, 0, 0, 0, 0, 0, 0, 0).refusal == 1);
-    CHECK(tk_load_tile(bank, 4095, written, 8192, source, 64, 0, 0, 0, 0, 0, 0, 0, 0, 0).refusal == 1);
-    CHECK(tk_load_tlut(bank, 4095, written, 8192, source, 64, 0, 0, 0, 0, 0, 0, 1, 0, 0).refusal == 1);
-    for (size_t i = 0; i < 3; i++) {
-        CHECK(answers(tk_load_block(bank, 4096, long_record, bad[i], source, 64, 0, 0, 0, 0, 0, 0, 0, 65535), 1, 65535));
-        CHECK(answers(tk_load_tile(bank, 4096, long_record, bad[i], source, 64, 0, 0, 0, 0, 0, 0, 0, 0, 9), 1, 9));
-        CHECK(answers(tk_load_tlut(bank, 4096, long_record, bad[i], source, 64, 0, 0, 0, 0, 0, 0, 1, 0, 0), 1, 0));
-        CHECK(tk_tile_has_load(TK_TILE_ARGUMENTS(t), long_record, bad[i]).refusal == 1);
+    /* The two lengths beside the right one, and those of other buffers. */
+    static const size_t bad_written[] = {8191, 8193, 512, 4096}, bad_reasons[] = {4095, 4097, 512, 8192};
+    for (size_t i = 0; i < 4; i++) {
+        memory bad[] = {whole, whole, whole};
+        bad[0].bank_length = 4095;
+        bad[1].written = long_buffer;
+        bad[1].written_length = bad_written[i];
+        bad[2].reasons = long_buffer;
+        bad[2].reasons_length = bad_reasons[i];
+        for (int kind = 0; kind < LOADS; kind++) {
+            for (size_t k = 0; k < 3; k++) {
+                CHECK(answers(load(bad[k], kind, 0, usual[kind]), 1, usual[kind][LAST]));
+                CHECK(answers(load(bad[k], kind, 1, usual[kind]), 1, usual[kind][LAST]));
+            }
+        }
+        CHECK(tk_tile_has_load(TK_TILE_ARGUMENTS(t), long_buffer, bad_written[i]).refusal == 1);
+        CHECK(tk_rejection(TK_TILE_ARGUMENTS(t), long_buffer, bad_reasons[i]).refusal == 1);
     }
     CHECK(tk_reach(TK_TILE_ARGUMENTS(t), map, 511) == 1);
-    CHECK(tk_reach(TK_TILE_ARGUMENTS(t), long_record, 8192) == 1);
+    CHECK(tk_reach(TK_TILE_ARGUMENTS(t), long_buffer, 8192) == 1);
     CHECK(tk_palette_nonreplicated(bank, 4095, lanes, 32) == 1);
     CHECK(tk_palette_nonreplicated(bank, 4096, lanes, 31) == 1);
     CHECK(tk_key(bank, 4095, TK_TILE_ARGUMENTS(t), 0, key, 4096).refusal == 1);
@@ -283,6 +344,28 @@ static void check_picture_answers(const tk_tile *tile) {
     CHECK(trail[1] == 16 && trail[2 * 8192 + 1] == 20);
 }
 
+/* The reason that is answered where two addresses have one: 5 and 255. */
+static uint32_t rejection_at(const tk_tile *tile, uint32_t five, uint32_t other) {
+    memset(reasons, 0, sizeof reasons);
+    reasons[other] = TK_REASON_MOST;
+    reasons[five] = 5;
+    tk_reason_answer answer = tk_rejection_of(tile, reasons);
+    CHECK(answer.refusal == 0);
+    return answer.reason;
+}
+
+/* The tile reaches 16, 17, 18, then 28, 29, 30. With a palette, of sixteen 4-bit indices from 24 on, entries follow: palette 1 is the
+ * 128 bytes from 2,176 on; with 8-bit ones the whole upper half. */
+static void check_rejections(const tk_tile *tile) {
+    CHECK(rejection_at(tile, 19, 31) == 0 && rejection_at(tile, 30, 19) == 5 && rejection_at(tile, 19, 30) == 255);
+    CHECK(rejection_at(tile, 18, 28) == 5 && rejection_at(tile, 28, 18) == 255 && rejection_at(tile, 4095, 2176) == 0);
+    tk_tile wide = with(with(with(*tile, 3, 2), 1, 0), 10, 16), bytes = with(wide, 1, 1);
+    CHECK(rejection_at(&wide, 2175, 2304) == 0 && rejection_at(&wide, 2303, 2304) == 5);
+    CHECK(rejection_at(&wide, 2176, 2303) == 5 && rejection_at(&wide, 2303, 2176) == 255);
+    CHECK(rejection_at(&wide, 2176, 24) == 255 && rejection_at(&wide, 24, 28) == 255);
+    CHECK(rejection_at(&bytes, 4095, 2047) == 5 && rejection_at(&bytes, 4095, 2048) == 255);
+}
+
 /* What each entry but the loads and the replay answers and leaves on success. */
 static void check_answers(void) {
     tk_tile tile = plain_tile();
@@ -306,6 +389,8 @@ static void check_answers(void) {
         yes = tk_tile_has_load_of(&tile, written);
         CHECK(yes.refusal == 0 && yes.yes == (i < 62));
     }
+
+    check_rejections(&tile);
 
     tk_answer answer = tk_key_of(bank, &tile, 0, key);
     CHECK(answer.refusal == 0 && answer.count == 6 && key[16] == 16 && key[30] == 30 && key[19] == 0 && key[4095] == 0);
@@ -331,30 +416,52 @@ static int written_from(uint32_t from, uint32_t to, uint32_t number) {
     return all;
 }
 
-/* What the loads answer and leave: a word of eight bytes at address 16; then one in row 1; then palette entries. */
+/* Whether a reason stands at the addresses from one up to another, and another at both sides of them. */
+static int reasoned_from(uint32_t from, uint32_t to, uint8_t reason) {
+    int all = reasons[to] != reason && reasons[from - 1] != reason;
+    for (uint32_t a = from; a < to; a++) all = all && reasons[a] == reason;
+    return all;
+}
+
+/* What the loads answer and leave: a word of eight bytes at address 16; then one in row 1; then palette entries. Before, every address
+ * has the reason 77. */
 static void check_load_answers(void) {
     tk_tile load = {0, 2, 0, 0, 0, 0, 0, 0, 1, 2, 0, 0};
     memset(written, 0, sizeof written);
+    memset(reasons, 77, sizeof reasons);
     for (uint32_t i = 0; i < sizeof source; i++) source[i] = (uint8_t)(100 + i);
-    CHECK(loaded(tk_load_block_of(bank, written, source, sizeof source, &load, 2, 0, 1, 0), 8, 0, 1));
-    CHECK(bank[16] == 100 && bank[23] == 107 && written_from(16, 24, 1) && written[33] == 1);
-    CHECK(loaded(tk_load_tile_of(bank, written, source, sizeof source, &load, 2, 2, 1, 16, 1), 16, 0, 2));
-    CHECK(bank[16] == 100 && bank[28] == 116 && written_from(16, 32, 2));
-    CHECK(loaded(tk_load_tlut_of(bank, written, source, sizeof source, &load, 0, 2, 2, 16, 255), 32, 0, 256));
+    CHECK(loaded(tk_load_block_of(bank, written, reasons, source, sizeof source, &load, 2, 0, 1, 0), 8, 0, 1));
+    CHECK(bank[16] == 100 && bank[23] == 107 && written_from(16, 24, 1) && written[33] == 1 && reasoned_from(16, 24, 0));
+    CHECK(loaded(tk_load_tile_of(bank, written, reasons, source, sizeof source, &load, 2, 2, 1, 16, 1), 16, 0, 2));
+    CHECK(bank[16] == 100 && bank[28] == 116 && written_from(16, 32, 2) && reasoned_from(16, 32, 0));
+    CHECK(loaded(tk_load_tlut_of(bank, written, reasons, source, sizeof source, &load, 0, 2, 2, 16, 255), 32, 0, 256));
     CHECK(bank[16] == 100 && bank[24] == 102 && bank[48] == 116 && bank[56] == 118);
     CHECK(written_from(16, 32, 256) && written_from(48, 64, 256) && written[32] == 1 && written[33] == 0);
+    CHECK(reasoned_from(16, 32, 0) && reasoned_from(48, 64, 0));
 
     /* The same with a source that is cut short. Each byte of a palette entry is stored four times. */
-    CHECK(loaded(tk_load_block_of(bank, written, source, 5, &load, 2, 0, 1, 256), 8, 3, 257));
+    CHECK(loaded(tk_load_block_of(bank, written, reasons, source, 5, &load, 2, 0, 1, 256), 8, 3, 257));
     CHECK(bank[20] == 104 && bank[21] == 0 && written_from(16, 24, 257) && written_from(24, 32, 256));
-    CHECK(loaded(tk_load_tile_of(bank, written, source, 22, &load, 2, 2, 1, 16, 65533), 16, 2, 65534));
+    CHECK(loaded(tk_load_tile_of(bank, written, reasons, source, 22, &load, 2, 2, 1, 16, 65533), 16, 2, 65534));
     CHECK(bank[25] == 121 && bank[26] == 0 && written_from(16, 32, 65534));
-    CHECK(loaded(tk_load_tlut_of(bank, written, source, 19, &load, 0, 2, 2, 16, 65534), 32, 4, 65535));
+    CHECK(loaded(tk_load_tlut_of(bank, written, reasons, source, 19, &load, 0, 2, 2, 16, 65534), 32, 4, 65535));
     CHECK(bank[62] == 118 && bank[63] == 0 && written_from(16, 32, 65535) && written_from(48, 64, 65535));
-    CHECK(loaded(tk_load_tlut_of(bank, written, source, 3, &load, 2, 2, 1, 0, 7), 16, 4, 8));
-    CHECK(answers(tk_load_tlut_of(bank, written, source, 3, &load, 2, 2, 0, 0, 65535), 4, 65535));
-    CHECK(answers(tk_load_tlut_of(bank, written, source, 3, &load, 2, 2, 1, 0, UINT32_MAX), 18, UINT32_MAX));
+    CHECK(loaded(tk_load_tlut_of(bank, written, reasons, source, 3, &load, 2, 2, 1, 0, 7), 16, 4, 8));
+    CHECK(answers(tk_load_tlut_of(bank, written, reasons, source, 3, &load, 2, 2, 0, 0, 65535), 4, 65535));
+    CHECK(answers(tk_load_tlut_of(bank, written, reasons, source, 3, &load, 2, 2, 1, 0, UINT32_MAX), 18, UINT32_MAX));
     CHECK(tk_written_by(written, TK_BANK_BYTES) == 0 && tk_written_by(written, UINT32_MAX) == 0);
+
+    /* Rejected they store, count and number alike, and leave their reason. */
+    CHECK(loaded(tk_reject_block_of(bank, written, reasons, source, 5, &load, 2, 0, 1, 1, 256), 8, 3, 257));
+    CHECK(bank[16] == 100 && bank[20] == 104 && bank[21] == 0 && written_from(16, 24, 257) && reasoned_from(16, 24, 1));
+    CHECK(loaded(tk_reject_tile_of(bank, written, reasons, source, 22, &load, 2, 2, 1, 16, 255, 65533), 16, 2, 65534));
+    CHECK(bank[28] == 116 && bank[25] == 121 && bank[26] == 0 && written_from(16, 32, 65534));
+    CHECK(reasoned_from(16, 32, 255) && reasons[48] == 0 && reasons[64] == 77);
+    CHECK(loaded(tk_reject_tlut_of(bank, written, reasons, source, 19, &load, 0, 2, 2, 16, 128, 65534), 32, 4, 65535));
+    CHECK(bank[62] == 118 && bank[63] == 0 && written_from(16, 32, 65535) && written_from(48, 64, 65535));
+    CHECK(reasoned_from(16, 32, 128) && reasoned_from(48, 64, 128));
+    CHECK(answers(tk_reject_tlut_of(bank, written, reasons, source, 19, &load, 0, 2, 2, 16, 256, 7), 19, 7));
+    CHECK(reasoned_from(16, 32, 128) && written_from(16, 32, 65535));
 }
 
 /* Whether a record is not refused, and answers a count and a number. */
@@ -373,20 +480,23 @@ static void check_replay(void) {
     static const uint8_t key_of_repeating[TK_RECORD_BYTES] = {3, 0, 4, 1, 1, 1, 0, 2, 1, 1, 0, 1, 0, 2, 0, 3, 0, 2};
     memset(bank, 0, sizeof bank);
     memset(written, 0, sizeof written);
-    CHECK(replayed(tk_replay_record_of(bank, written, block, sizeof source, source, sizeof source, 0), 8, 1));
-    CHECK(bank[16] == 100 && bank[23] == 107 && bank[24] == 0 && written_from(16, 24, 1));
-    CHECK(replayed(tk_replay_record_of(bank, written, tile, sizeof source, source + 1, sizeof source - 1, 1), 16, 2));
+    memset(reasons, 77, sizeof reasons);
+    CHECK(replayed(tk_replay_record_of(bank, written, reasons, block, sizeof source, source, sizeof source, 0), 8, 1));
+    CHECK(bank[16] == 100 && bank[23] == 107 && bank[24] == 0 && written_from(16, 24, 1) && reasoned_from(16, 24, 0));
+    CHECK(replayed(tk_replay_record_of(bank, written, reasons, tile, sizeof source, source + 1, sizeof source - 1, 1), 16,
+                   2));
     CHECK(bank[16] == 101 && bank[28] == 117 && written_from(16, 32, 2));
     CHECK(bank[31] == 120 && bank[24] == 0); /* the source ends inside the second row */
-    CHECK(
-        replayed(tk_replay_record_of(bank, written, tlut, sizeof source, source + 2, sizeof source - 2, 65534), 32, 65535));
+    CHECK(replayed(tk_replay_record_of(bank, written, reasons, tlut, sizeof source, source + 2, sizeof source - 2, 65534),
+                   32, 65535));
     CHECK(bank[16] == 102 && bank[24] == 104 && bank[48] == 118 && bank[56] == 120);
     CHECK(written_from(16, 32, 65535) && written_from(48, 64, 65535));
+    CHECK(reasoned_from(16, 32, 0) && reasoned_from(48, 64, 0));
     uint8_t before[TK_BANK_BYTES];
     memcpy(before, bank, sizeof bank);
-    CHECK(replayed(tk_replay_record_of(bank, written, key_of_tile, 0, NULL, 0, 65535), 6, 65535));
-    CHECK(replayed(tk_replay_record_of(bank, written, key_of_repeating, 0, NULL, 0, UINT32_MAX), 4, UINT32_MAX));
-    CHECK(memcmp(before, bank, sizeof bank) == 0 && written_from(16, 32, 65535));
+    CHECK(replayed(tk_replay_record_of(bank, written, reasons, key_of_tile, 0, NULL, 0, 65535), 6, 65535));
+    CHECK(replayed(tk_replay_record_of(bank, written, reasons, key_of_repeating, 0, NULL, 0, UINT32_MAX), 4, UINT32_MAX));
+    CHECK(memcmp(before, bank, sizeof bank) == 0 && written_from(16, 32, 65535) && reasoned_from(16, 32, 0));
 }
 
 /* The count is taken up to its limit and refused past it, whatever the lengths are; each length must be the right one. */
@@ -429,23 +539,26 @@ static void check_split_answers(void) {
     CHECK(answer.refusal == 17 && answer.tuning == 0 && answer.held_out == 0 && memcmp(sides, front, sizeof front) == 0);
 }
 
-/* Eight stores, none of a byte of the source. */
-static int all_made_up(tk_load_answer answer) { return answer.count == 8 && answer.made_up == 8; }
+/* Stores, none of a byte of the source. */
+static int all_made_up(tk_load_answer answer) { return answer.count > 0 && answer.made_up == answer.count; }
 
 /* An empty buffer may be null. */
 static void check_null(void) {
     tk_tile tile = with(plain_tile(), 10, 0);
     const tk_tile *t = &tile;
-    CHECK(all_made_up(tk_load_block(bank, sizeof bank, written, sizeof written, NULL, 0, 0, 2, 0, 0, 2, 0, 1, 0)));
-    CHECK(all_made_up(tk_load_tile(bank, sizeof bank, written, sizeof written, NULL, 0, 0, 2, 0, 0, 2, 1, 1, 0, 0)));
-    CHECK(all_made_up(tk_load_tlut(bank, sizeof bank, written, sizeof written, NULL, 0, 0, 2, 0, 0, 2, 1, 1, 0, 0)));
+    memory without_source = whole, nothing_lent = {0};
+    without_source.source = NULL;
+    without_source.source_length = 0;
+    for (int kind = 0; kind < LOADS; kind++) {
+        for (int is_rejected = 0; is_rejected < 2; is_rejected++) {
+            CHECK(all_made_up(load(without_source, kind, is_rejected, usual[kind])));
+            CHECK(load(nothing_lent, kind, is_rejected, usual[kind]).refusal == 1);
+        }
+    }
     CHECK(tk_sample_tile_of(bank, t, 0, NULL, 0).refusal == 0);
     CHECK(tk_sample_tile_observed_of(bank, t, 0, NULL, 0, NULL, 0).refusal == 0);
     CHECK(tk_sampling_lookup_of(bank, t, 0, NULL, 0).refusal == 6);
     CHECK(tk_sampling_lookup_observed_of(bank, t, 0, picture, sizeof picture, NULL, 0).refusal == 7);
-    CHECK(tk_load_block(NULL, 0, NULL, 0, NULL, 0, 0, 0, 0, 0, 0, 0, 0, 0).refusal == 1);
-    CHECK(tk_load_tile(NULL, 0, NULL, 0, NULL, 0, 0, 0, 0, 0, 0, 0, 0, 0, 0).refusal == 1);
-    CHECK(tk_load_tlut(NULL, 0, NULL, 0, NULL, 0, 0, 0, 0, 0, 0, 0, 1, 0, 0).refusal == 1);
     CHECK(tk_write_pam(1, 1, NULL, 0, NULL, 0).refusal == 6);
     CHECK(tk_read_pam(NULL, 0, NULL, 0).refusal == 13);
     tk_split_answer nothing = tk_split(0, NULL, 0, NULL, 0);
@@ -453,12 +566,13 @@ static void check_null(void) {
     CHECK(tk_split(1, NULL, 0, NULL, 0).refusal == 17);
     CHECK(tk_reach(TK_TILE_ARGUMENTS(t), NULL, 0) == 1);
     CHECK(tk_tile_has_load(TK_TILE_ARGUMENTS(t), NULL, 0).refusal == 1);
+    CHECK(tk_rejection(TK_TILE_ARGUMENTS(t), NULL, 0).refusal == 1);
     CHECK(tk_palette_nonreplicated(NULL, 0, NULL, 0) == 1);
     CHECK(tk_key(NULL, 0, TK_TILE_ARGUMENTS(t), 0, NULL, 0).refusal == 1);
     static const uint8_t empty_block[TK_RECORD_BYTES];
-    CHECK(tk_replay_record_of(bank, written, empty_block, 0, NULL, 0, 0).refusal == 0);
-    CHECK(tk_replay_record(bank, sizeof bank, written, sizeof written, NULL, 0, 0, NULL, 0, 0).refusal == 8);
-    CHECK(tk_replay_record(NULL, 0, NULL, 0, NULL, 0, 0, NULL, 0, 0).refusal == 1);
+    CHECK(tk_replay_record_of(bank, written, reasons, empty_block, 0, NULL, 0, 0).refusal == 0);
+    CHECK(tk_replay_record(bank, 4096, written, 8192, reasons, 4096, NULL, 0, 0, NULL, 0, 0).refusal == 8);
+    CHECK(tk_replay_record(NULL, 0, NULL, 0, NULL, 0, NULL, 0, 0, NULL, 0, 0).refusal == 1);
 }
 
 int main(void) {

@@ -6,7 +6,8 @@
  * Each buffer lies against a page that cannot be touched, at its end or at its start, so that the archive cannot reach
  * outside it unseen. After each call its refusal, its counts and a load's number are held against what documents 01 and 02 say,
  * worked out here on their own, its other answers against 0 where it refused, and every byte that must not have changed against a
- * copy. Of a file with changed bytes only the numbers that reading can refuse are known. */
+ * copy. Of a file with changed bytes only the numbers that reading can refuse are known. In the end it fails if a refusal never
+ * came up, but for 9, which no input gives. */
 
 #include <stdbool.h>
 #include <stdio.h>
@@ -54,12 +55,12 @@ typedef struct buffer {
 } buffer;
 
 /* SOURCE is also the part of the companion that a replay takes. */
-enum { BANK, WRITTEN, SOURCE, PICTURE, TRAIL, MAP, LANES, KEY, RECORD, PAM, TO_SPLIT, SIDES, BUFFERS };
+enum { BANK, WRITTEN, REASONS, SOURCE, PICTURE, TRAIL, MAP, LANES, KEY, RECORD, PAM, TO_SPLIT, SIDES, BUFFERS };
 
 static buffer buffers[BUFFERS];
-static const char *const buffer_names[BUFFERS] = {"bank",   "written record", "source",   "picture",
-                                                  "trail",  "reach map",      "lane map", "key",
-                                                  "record", "file",           "entries",  "sides"};
+static const char *const buffer_names[BUFFERS] = {"bank",  "written record", "reasons",  "source", "picture",
+                                                  "trail", "reach map",      "lane map", "key",    "record",
+                                                  "file",  "entries",        "sides"};
 
 /* Where the body of an entry begins, behind its capture number. */
 enum { BODY_AT = 4 };
@@ -67,9 +68,10 @@ enum { BODY_AT = 4 };
 /* A header that is made here has at most this many bytes. */
 enum { HEADER_ROOM = 8192 };
 
-/* The right lengths of bank, written record, reach map, lane map, key and record; the most for the others. */
+/* The right lengths of bank, written record, reasons, reach map, lane map, key and record; the most for the others. */
 static const size_t right_length[BUFFERS] = {TK_BANK_BYTES,
                                              TK_WRITTEN_BYTES,
+                                             TK_REASON_BYTES,
                                              TK_SOURCE_MOST,
                                              4 * TK_SIDE_MOST *TK_SIDE_MOST,
                                              8 * TK_SIDE_MOST *TK_SIDE_MOST,
@@ -110,6 +112,9 @@ enum {
     LOAD_BLOCK,
     LOAD_TILE,
     LOAD_TLUT,
+    REJECT_BLOCK,
+    REJECT_TILE,
+    REJECT_TLUT,
     SAMPLING,
     SAMPLE_TILE,
     SAMPLE_TILE_OBSERVED,
@@ -117,6 +122,7 @@ enum {
     SAMPLING_LOOKUP_OBSERVED,
     REACH,
     TILE_HAS_LOAD,
+    REJECTION,
     PALETTE_NONREPLICATED,
     CUT_KEY,
     REPLAY_RECORD,
@@ -129,6 +135,9 @@ enum {
 static const char *const entry_names[ENTRIES] = {"tk_load_block",
                                                  "tk_load_tile",
                                                  "tk_load_tlut",
+                                                 "tk_reject_block",
+                                                 "tk_reject_tile",
+                                                 "tk_reject_tlut",
                                                  "tk_sampling",
                                                  "tk_sample_tile",
                                                  "tk_sample_tile_observed",
@@ -136,6 +145,7 @@ static const char *const entry_names[ENTRIES] = {"tk_load_block",
                                                  "tk_sampling_lookup_observed",
                                                  "tk_reach",
                                                  "tk_tile_has_load",
+                                                 "tk_rejection",
                                                  "tk_palette_nonreplicated",
                                                  "tk_key",
                                                  "tk_replay_record",
@@ -155,16 +165,23 @@ enum {
     TAKES_RECORD = 128,
     TAKES_SIDES = 256,
     TAKES_HEADER = 512,
-    TAKES_COUNT = 1024
+    TAKES_COUNT = 1024,
+    TAKES_REASON = 2048
 };
+
+/* The buffers that a load writes. */
+enum { LOADED = 1 << BANK | 1 << WRITTEN | 1 << REASONS };
 
 static const struct {
     unsigned takes;
     unsigned read, written; /* buffers, by bits */
 } entries[ENTRIES] = {
-    [LOAD_BLOCK] = {TAKES_LOAD_FIELDS | TAKES_LOAD, 1 << SOURCE, 1 << BANK | 1 << WRITTEN},
-    [LOAD_TILE] = {TAKES_LOAD_FIELDS | TAKES_LOAD, 1 << SOURCE, 1 << BANK | 1 << WRITTEN},
-    [LOAD_TLUT] = {TAKES_LOAD_FIELDS | TAKES_LOAD, 1 << SOURCE, 1 << BANK | 1 << WRITTEN},
+    [LOAD_BLOCK] = {TAKES_LOAD_FIELDS | TAKES_LOAD, 1 << SOURCE, LOADED},
+    [LOAD_TILE] = {TAKES_LOAD_FIELDS | TAKES_LOAD, 1 << SOURCE, LOADED},
+    [LOAD_TLUT] = {TAKES_LOAD_FIELDS | TAKES_LOAD, 1 << SOURCE, LOADED},
+    [REJECT_BLOCK] = {TAKES_LOAD_FIELDS | TAKES_LOAD | TAKES_REASON, 1 << SOURCE, LOADED},
+    [REJECT_TILE] = {TAKES_LOAD_FIELDS | TAKES_LOAD | TAKES_REASON, 1 << SOURCE, LOADED},
+    [REJECT_TLUT] = {TAKES_LOAD_FIELDS | TAKES_LOAD | TAKES_REASON, 1 << SOURCE, LOADED},
     [SAMPLING] = {TAKES_TILE, 0, 0},
     [SAMPLE_TILE] = {TAKES_TILE | TAKES_LANE | TAKES_PAIR | TAKES_PICTURE, 1 << BANK, 1 << PICTURE},
     [SAMPLE_TILE_OBSERVED] = {TAKES_TILE | TAKES_LANE | TAKES_PAIR | TAKES_PICTURE | TAKES_TRAIL, 1 << BANK,
@@ -174,9 +191,10 @@ static const struct {
                                   1 << PICTURE | 1 << TRAIL},
     [REACH] = {TAKES_TILE, 0, 1 << MAP},
     [TILE_HAS_LOAD] = {TAKES_TILE, 1 << WRITTEN, 0},
+    [REJECTION] = {TAKES_TILE, 1 << REASONS, 0},
     [PALETTE_NONREPLICATED] = {0, 1 << BANK, 1 << LANES},
     [CUT_KEY] = {TAKES_TILE | TAKES_LANE | TAKES_PAIR, 1 << BANK, 1 << KEY},
-    [REPLAY_RECORD] = {TAKES_RECORD, 1 << RECORD | 1 << SOURCE, 1 << BANK | 1 << WRITTEN},
+    [REPLAY_RECORD] = {TAKES_RECORD, 1 << RECORD | 1 << SOURCE, LOADED},
     [WRITE_PAM] = {TAKES_SIDES, 1 << PICTURE, 1 << PAM},
     [READ_PAM] = {TAKES_HEADER, 1 << PAM, 1 << PICTURE},
     [SPLIT] = {TAKES_COUNT, 1 << TO_SPLIT, 1 << SIDES},
@@ -186,9 +204,10 @@ static const struct {
 static const int asked_for[4] = {LOAD_BLOCK, LOAD_TILE, LOAD_TLUT, CUT_KEY};
 
 static struct {
-    int entry, does; /* what it does: the entry's own work, or what its record asks for */
+    int entry, does; /* what it does: the entry's own work, what its record asks for, or the load that is rejected */
     tk_tile tile;
     uint32_t lane, image_siz, numbers[3]; /* dxt, words; or rows, words, stride; or count, rows, stride */
+    uint32_t reason;                      /* of a rejected load */
     uint32_t last;                        /* the number of the load before */
     uint32_t kind, offset, length;        /* of a record */
     uint64_t end;                         /* the companion's length */
@@ -212,8 +231,8 @@ static void print_call(void) {
         "  %s: fmt %u siz %u palette %u mode %u cms %u cmt %u masks %u maskt %u line %u tmem_addr %u width %u height %u\n",
         entry_names[now.entry], t->fmt, t->siz, t->palette, t->mode, t->cms, t->cmt, t->masks, t->maskt, t->line,
         t->tmem_addr, t->width, t->height);
-    fprintf(stderr, "  lane %u image_siz %u numbers %u %u %u last %u\n", now.lane, now.image_siz, now.numbers[0],
-            now.numbers[1], now.numbers[2], now.last);
+    fprintf(stderr, "  lane %u image_siz %u numbers %u %u %u reason %u last %u\n", now.lane, now.image_siz, now.numbers[0],
+            now.numbers[1], now.numbers[2], now.reason, now.last);
     if (now.entry == REPLAY_RECORD) {
         fprintf(stderr, "  kind %u offset %u length %u end %llu\n", now.kind, now.offset, now.length,
                 (unsigned long long)now.end);
@@ -252,7 +271,7 @@ static uint32_t reads_each(void) { return now.tile.mode >= 2 ? 3 : direct_reads[
 
 static bool wrong_length(void) {
     unsigned lent = entries[now.entry].read | entries[now.entry].written;
-    static const int exact[] = {BANK, WRITTEN, MAP, LANES, KEY};
+    static const int exact[] = {BANK, WRITTEN, REASONS, MAP, LANES, KEY};
     for (size_t i = 0; i < sizeof exact / sizeof *exact; i++) {
         if ((lent >> exact[i] & 1) && buffers[exact[i]].length != right_length[exact[i]]) return true;
     }
@@ -326,6 +345,7 @@ static uint32_t expected_refusal(void) {
     if ((takes & (TAKES_PICTURE | TAKES_SIDES)) && buffers[PICTURE].length < 4 * texels()) return 6;
     if ((takes & TAKES_SIDES) && buffers[PAM].length < file_bytes()) return 6;
     if ((takes & TAKES_TRAIL) && buffers[TRAIL].length / 2 < reads_each() * texels()) return 7;
+    if ((takes & TAKES_REASON) && (now.reason == 0 || now.reason > TK_REASON_MOST)) return 19;
     if ((takes & TAKES_LOAD) && now.last > 65534) return 18;
     return 0;
 }
@@ -339,14 +359,15 @@ static uint32_t expected_number(void) {
 
 /* ---- Making a call -------------------------------------------------------------------------------------------------- */
 
-/* A length: mostly the right one, else beside it, that of a reach map or of a written record, or any up to the room. */
+/* A length: mostly the right one, else beside it, that of another buffer that is lent with it, or any up to the room. */
 static size_t some_length(int i, size_t right) {
+    static const size_t others[] = {TK_MAP_BYTES, TK_REASON_BYTES, TK_WRITTEN_BYTES};
     if (!one_in(16)) return right;
     switch (up_to(5)) {
         case 0: return 0;
         case 1: return right == 0 ? 1 : right - 1;
         case 2: return right + 1;
-        case 3: return one_in(2) ? TK_MAP_BYTES : TK_WRITTEN_BYTES;
+        case 3: return others[up_to(2)];
         default: return up_to((uint32_t)buffers[i].room);
     }
 }
@@ -381,6 +402,9 @@ static void choose_load(void) {
     }
 }
 
+/* A reason that is taken, at the limits as often as not. */
+static void choose_reason(void) { now.reason = one_in(2) ? 1 + up_to(TK_REASON_MOST - 1) : one_in(2) ? 1 : TK_REASON_MOST; }
+
 /* The number of the load before: mostly one that leaves some, near the limits of its bytes as often as not. */
 static void choose_last(void) {
     static const uint32_t limits[] = {1, 255, 256, 65280, 65534};
@@ -389,13 +413,13 @@ static void choose_last(void) {
 
 /* Puts one number outside its range, or anywhere. */
 static void break_one(void) {
-    static const uint32_t most[18] = {7, 3, 15,   3,    3,     3,    15, 15, 511, 511, TK_SIDE_MOST, TK_SIDE_MOST,
-                                      3, 3, 4095, 2048, 65535, 65534};
-    uint32_t *numbers[18] = {&now.tile.fmt,   &now.tile.siz,    &now.tile.palette, &now.tile.mode, &now.tile.cms,
+    static const uint32_t most[19] = {
+        7, 3, 15, 3, 3, 3, 15, 15, 511, 511, TK_SIDE_MOST, TK_SIDE_MOST, 3, 3, 4095, 2048, 65535, TK_REASON_MOST, 65534};
+    uint32_t *numbers[19] = {&now.tile.fmt,   &now.tile.siz,    &now.tile.palette, &now.tile.mode, &now.tile.cms,
                              &now.tile.cmt,   &now.tile.masks,  &now.tile.maskt,   &now.tile.line, &now.tile.tmem_addr,
                              &now.tile.width, &now.tile.height, &now.lane,         &now.image_siz, &now.numbers[0],
-                             &now.numbers[1], &now.numbers[2],  &now.last};
-    uint32_t i = one_in(6) ? 17 : up_to(17);
+                             &now.numbers[1], &now.numbers[2],  &now.reason,       &now.last};
+    uint32_t i = one_in(6) ? 17 + up_to(1) : up_to(18);
     switch (up_to(3)) {
         case 0: *numbers[i] = most[i] + 1; break;
         case 1: *numbers[i] = UINT32_MAX; break;
@@ -411,6 +435,7 @@ static void break_all(void) {
     now.lane = any_number();
     now.image_siz = any_number();
     for (int i = 0; i < 3; i++) now.numbers[i] = any_number();
+    now.reason = any_number();
     now.last = any_number();
 }
 
@@ -592,6 +617,14 @@ static void choose_entries(void) {
     }
 }
 
+/* Reasons to be asked for: as loads have left them, or at a few addresses alone. */
+static void choose_reasons(void) {
+    if (one_in(4)) return;
+    uint8_t reasons[TK_REASON_BYTES] = {0};
+    for (uint32_t i = up_to(3); i > 0; i--) reasons[up_to(TK_REASON_BYTES - 1)] = (uint8_t)(1 + up_to(TK_REASON_MOST - 1));
+    write_front(&buffers[REASONS], reasons, sizeof reasons);
+}
+
 /* Lends every buffer that the entry takes. Picture, trail and file get what the tile needs as far as there is room, or more. */
 static void choose_lengths(void) {
     unsigned lent = entries[now.entry].read | entries[now.entry].written;
@@ -618,9 +651,11 @@ static void choose_call(void) {
     if (lookup && !one_in(8)) now.entry -= SAMPLING_LOOKUP - SAMPLE_TILE; /* lookups take long */
     now.kind = up_to(3);
     now.does = now.entry == REPLAY_RECORD ? asked_for[now.kind] : now.entry;
+    if (entries[now.entry].takes & TAKES_REASON) now.does -= REJECT_BLOCK - LOAD_BLOCK;
     memset(now.numbers, 0, sizeof now.numbers);
     choose_tile();
     choose_load();
+    choose_reason();
     choose_last();
     now.lane = up_to(3);
     if (one_in(4)) {
@@ -634,10 +669,15 @@ static void choose_call(void) {
     choose_lengths();
     if (now.entry == REPLAY_RECORD) write_front(&buffers[RECORD], now.record, sizeof now.record);
     if (now.entry == READ_PAM) write_front(&buffers[PAM], now.header.bytes, now.header.length);
+    if (now.entry == REJECTION) choose_reasons();
     if (now.entry == SPLIT && expected_of_split() == 0) choose_entries();
 }
 
 #define LENT(i) buffers[i].lent, buffers[i].length
+
+/* What every load takes first. */
+#define LOAD_FRONT \
+    LENT(BANK), LENT(WRITTEN), LENT(REASONS), LENT(SOURCE), t->fmt, t->siz, t->line, t->tmem_addr, now.image_siz
 
 static void set_answer(tk_answer given) {
     answer.refusal = given.refusal;
@@ -662,18 +702,12 @@ static void make_call(void) {
     const uint32_t *n = now.numbers;
     memset(&answer, 0, sizeof answer);
     switch (now.entry) {
-        case LOAD_BLOCK:
-            set_load_answer(tk_load_block(LENT(BANK), LENT(WRITTEN), LENT(SOURCE), t->fmt, t->siz, t->line, t->tmem_addr,
-                                          now.image_siz, n[0], n[1], now.last));
-            break;
-        case LOAD_TILE:
-            set_load_answer(tk_load_tile(LENT(BANK), LENT(WRITTEN), LENT(SOURCE), t->fmt, t->siz, t->line, t->tmem_addr,
-                                         now.image_siz, n[0], n[1], n[2], now.last));
-            break;
-        case LOAD_TLUT:
-            set_load_answer(tk_load_tlut(LENT(BANK), LENT(WRITTEN), LENT(SOURCE), t->fmt, t->siz, t->line, t->tmem_addr,
-                                         now.image_siz, n[0], n[1], n[2], now.last));
-            break;
+        case LOAD_BLOCK: set_load_answer(tk_load_block(LOAD_FRONT, n[0], n[1], now.last)); break;
+        case LOAD_TILE: set_load_answer(tk_load_tile(LOAD_FRONT, n[0], n[1], n[2], now.last)); break;
+        case LOAD_TLUT: set_load_answer(tk_load_tlut(LOAD_FRONT, n[0], n[1], n[2], now.last)); break;
+        case REJECT_BLOCK: set_load_answer(tk_reject_block(LOAD_FRONT, n[0], n[1], now.reason, now.last)); break;
+        case REJECT_TILE: set_load_answer(tk_reject_tile(LOAD_FRONT, n[0], n[1], n[2], now.reason, now.last)); break;
+        case REJECT_TLUT: set_load_answer(tk_reject_tlut(LOAD_FRONT, n[0], n[1], n[2], now.reason, now.last)); break;
         case SAMPLING: {
             tk_sampling_answer given = tk_sampling(TK_TILE_ARGUMENTS(t));
             answer.refusal = given.refusal;
@@ -699,10 +733,17 @@ static void make_call(void) {
             answer.numbers[0] = given.yes;
             break;
         }
+        case REJECTION: {
+            tk_reason_answer given = tk_rejection(TK_TILE_ARGUMENTS(t), LENT(REASONS));
+            answer.refusal = given.refusal;
+            answer.numbers[0] = given.reason;
+            break;
+        }
         case PALETTE_NONREPLICATED: answer.refusal = tk_palette_nonreplicated(LENT(BANK), LENT(LANES)); break;
         case CUT_KEY: set_answer(tk_key(LENT(BANK), TK_TILE_ARGUMENTS(t), now.lane, LENT(KEY))); break;
         case REPLAY_RECORD:
-            set_replay_answer(tk_replay_record(LENT(BANK), LENT(WRITTEN), LENT(RECORD), now.end, LENT(SOURCE), now.last));
+            set_replay_answer(
+                tk_replay_record(LENT(BANK), LENT(WRITTEN), LENT(REASONS), LENT(RECORD), now.end, LENT(SOURCE), now.last));
             break;
         case WRITE_PAM: set_answer(tk_write_pam(t->width, t->height, LENT(PICTURE), LENT(PAM))); break;
         case READ_PAM: {
@@ -770,21 +811,46 @@ static void check_load_counts(void) {
     if (answer.numbers[1] != (now.entry == REPLAY_RECORD ? 0 : past_end * w.times)) fail("the made-up count");
 }
 
+/* What a buffer held before the call, where it was lent. */
+static const uint8_t *held(int i) { return buffers[i].copy + (buffers[i].lent - buffers[i].memory); }
+
 /* What a load left in the written record: the load's number or what was there, and its number where a byte of the bank is another.
- * A load of no stores leaves all as it was. */
+ * A load of no stores leaves all as it was. Its reason, 0 for an ordinary load, stands where its number is new; where its number is
+ * not, reasons are as before. */
 static void check_numbers(void) {
     const buffer *bank = &buffers[BANK], *written = &buffers[WRITTEN];
-    const uint8_t *bank_before = bank->copy + (bank->lent - bank->memory);
-    const uint8_t *before = written->copy + (written->lent - written->memory);
-    uint32_t numbered = 0;
+    const uint8_t *reasons = buffers[REASONS].lent, *reasons_before = held(REASONS);
+    const uint8_t *bank_before = held(BANK), *before = held(WRITTEN);
+    uint32_t numbered = 0, reason = entries[now.entry].takes & TAKES_REASON ? now.reason : 0;
     for (uint32_t a = 0; a < TK_BANK_BYTES; a++) {
         bool is_own = tk_written_by(written->lent, a) == now.last + 1;
         bool as_before = memcmp(written->lent + 2 * a, before + 2 * a, 2) == 0;
         if (!is_own && !as_before) fail("a number that is neither the load's nor the one before");
         if (!is_own && bank->lent[a] != bank_before[a]) fail("a changed byte without the load's number");
+        if (!is_own && reasons[a] != reasons_before[a]) fail("another reason without the load's number");
+        if (is_own && !as_before && reasons[a] != reason) fail("the load's number without its reason");
+        if (reasons[a] != reason && reasons[a] != reasons_before[a]) fail("a reason that is neither the load's nor before");
         numbered += is_own && !as_before;
     }
     if (numbered > answer.numbers[0]) fail("more addresses with the load's number than stores");
+}
+
+/* A reason that is answered stands at an address that the tile can reach or that its palette has; none is where no such address has
+ * one. */
+static void check_reason(void) {
+    const tk_tile *t = &now.tile;
+    uint8_t map[TK_MAP_BYTES];
+    if (tk_reach_of(t, map) != TK_DONE) fail("a reach beside a reason");
+    uint32_t palette = t->siz == 0 ? TK_PALETTE_BASE + 128 * t->palette : TK_PALETTE_BASE;
+    uint32_t palette_end = t->mode < 2 ? palette : t->siz == 0 ? palette + 128 : TK_BANK_BYTES;
+    bool stands = answer.numbers[0] == 0;
+    for (uint32_t a = 0; a < TK_BANK_BYTES; a++) {
+        uint32_t reason = buffers[REASONS].lent[a];
+        if (reason == 0 || !(tk_is_marked(map, a) || (a >= palette && a < palette_end))) continue;
+        if (answer.numbers[0] == 0) fail("no reason, though an address has one");
+        stands = stands || reason == answer.numbers[0];
+    }
+    if (!stands) fail("a reason that no address has");
 }
 
 /* What a writing answered and left. */
@@ -828,6 +894,7 @@ static void check_counts(void) {
     if (now.entry == SPLIT) check_split();
     if (now.entry == WRITE_PAM) check_written();
     if (now.entry == READ_PAM) check_read();
+    if (now.entry == REJECTION) check_reason();
     if (entries[now.does].takes & TAKES_LOAD) {
         check_load_counts();
         check_numbers();
@@ -866,16 +933,20 @@ static void check_call(bool whole) {
     }
 }
 
-/* How often each number was answered, by entry. */
-enum { NUMBERS = 19 };
+/* How often each number was answered, by entry. In so many calls each must come up. */
+enum { NUMBERS = 20, MANY_CALLS = 20000 };
 static uint64_t answered[ENTRIES][NUMBERS];
+
+static uint64_t times_answered(int number, int from, int to) {
+    uint64_t times = 0;
+    for (int entry = from; entry < to; entry++) times += answered[entry][number];
+    return times;
+}
 
 /* Prints that for the entries from one up to another, added up. */
 static void print_answered(int from, int to) {
     for (int number = 0; number < NUMBERS; number++) {
-        uint64_t times = 0;
-        for (int entry = from; entry < to; entry++) times += answered[entry][number];
-        printf(" %d: %llu", number, (unsigned long long)times);
+        printf(" %d: %llu", number, (unsigned long long)times_answered(number, from, to));
     }
     printf("\n");
 }
@@ -910,6 +981,11 @@ int main(int argc, char **argv) {
     for (int entry = REPLAY_RECORD; entry < ENTRIES; entry++) {
         printf("rough handling: of these %s:", entry_names[entry]);
         print_answered(entry, entry + 1);
+    }
+    for (int number = 0; done >= MANY_CALLS && number < NUMBERS; number++) {
+        if (number == TK_REFUSED_UNKNOWN || times_answered(number, 0, ENTRIES) > 0) continue;
+        fprintf(stderr, "rough: %d never came up\n", number);
+        return 1;
     }
     return 0;
 }

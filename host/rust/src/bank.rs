@@ -7,14 +7,21 @@ pub const BANK_BYTES: usize = 4096;
 /// The texels of a lookup.
 pub const LOOKUP_TEXELS: usize = 16384;
 
+/// The bytes of the reasons of rejected loads: one an address.
+pub const REASON_BYTES: usize = BANK_BYTES;
+
+/// A rejected load has a reason from 1 to this.
+pub const REASON_MOST: u32 = 255;
+
 /// A texel reads at most this many bytes of the bank.
 const TEXEL_READS_MOST: usize = 4;
 
-/// Texture memory: 4,096 bytes, and the record of which load wrote each of them.
+/// Texture memory: 4,096 bytes, the record of which load wrote each of them, and the reasons of those whose source was rejected.
 #[derive(Clone, Debug, PartialEq, Eq)]
 pub struct Bank {
     bytes: [u8; BANK_BYTES],
     written: Written,
+    reasons: [u8; REASON_BYTES],
 }
 
 /// What a load did.
@@ -55,10 +62,10 @@ impl Default for Bank {
     }
 }
 
-/// A bank of these bytes, none written by a load.
+/// A bank of these bytes, none written by a load, and none with a reason.
 impl From<[u8; BANK_BYTES]> for Bank {
     fn from(bytes: [u8; BANK_BYTES]) -> Self {
-        Self { bytes, written: Written::default() }
+        Self { bytes, written: Written::default(), reasons: [0; REASON_BYTES] }
     }
 }
 
@@ -73,7 +80,7 @@ impl Bank {
         &self.bytes
     }
 
-    /// Its bytes, to be changed by hand. The record of what loads wrote stays as it is.
+    /// Its bytes, to be changed by hand. The record of what loads wrote, and their reasons, stay as they are.
     pub fn bytes_mut(&mut self) -> &mut [u8; BANK_BYTES] {
         &mut self.bytes
     }
@@ -81,6 +88,12 @@ impl Bank {
     /// Which load wrote each byte: the number of the last one that stored there.
     pub fn written(&self) -> &Written {
         &self.written
+    }
+
+    /// Why the source of each byte was rejected: for each address the reason of the last load that stored there, 0 if that was not
+    /// rejected, or none was.
+    pub fn reasons(&self) -> &[u8; REASON_BYTES] {
+        &self.reasons
     }
 
     /// Loads a block of `words` words of eight bytes. Of the tile it takes `fmt`, `siz`, `line` and `tmem_addr`. The source is read
@@ -108,8 +121,8 @@ impl Bank {
         dxt: u32,
         words: u32,
     ) -> Result<Loaded, Refusal> {
-        let Written { bytes: written, last } = &mut self.written;
-        slices::load_block(&mut self.bytes, written, source, tile, image_siz, dxt, words, last)
+        let Self { bytes, written: Written { bytes: written, last }, reasons } = self;
+        slices::load_block(bytes, written, reasons, source, tile, image_siz, dxt, words, last)
     }
 
     /// Loads `rows` rows of `words` words each, `stride` source bytes apart.
@@ -133,8 +146,8 @@ impl Bank {
         words: u32,
         stride: u32,
     ) -> Result<Loaded, Refusal> {
-        let Written { bytes: written, last } = &mut self.written;
-        slices::load_tile(&mut self.bytes, written, source, tile, image_siz, rows, words, stride, last)
+        let Self { bytes, written: Written { bytes: written, last }, reasons } = self;
+        slices::load_tile(bytes, written, reasons, source, tile, image_siz, rows, words, stride, last)
     }
 
     /// Loads a palette of `rows` rows of `count` entries, `stride` source bytes apart.
@@ -157,8 +170,72 @@ impl Bank {
         rows: u32,
         stride: u32,
     ) -> Result<Loaded, Refusal> {
-        let Written { bytes: written, last } = &mut self.written;
-        slices::load_tlut(&mut self.bytes, written, source, tile, image_siz, count, rows, stride, last)
+        let Self { bytes, written: Written { bytes: written, last }, reasons } = self;
+        slices::load_tlut(bytes, written, reasons, source, tile, image_siz, count, rows, stride, last)
+    }
+
+    /// Loads a block as [`Bank::load_block`] does, of a source that the capture rig rejected, and leaves the reason, 1 to
+    /// [`REASON_MOST`], at each address where it stores. It stays there until another load stores; [`Bank::rejection`] asks for it. What
+    /// a reason means is the caller's affair.
+    ///
+    /// ```
+    /// use tulonkasa::{Bank, Refusal, Tile};
+    ///
+    /// let mut bank = Bank::new();
+    /// let tile = Tile { siz: 2, ..Tile::default() };
+    /// let rejected = bank.reject_block(&[0xf8, 0x01], &tile, 2, 0, 1, 7)?; // addresses 0 to 7
+    /// assert_eq!((rejected.count, rejected.number), (8, 1));
+    /// assert_eq!((bank.bytes()[0], bank.reasons()[7], bank.reasons()[8]), (0xf8, 7, 0));
+    ///
+    /// bank.load_block(&[0xf8, 0x01], &tile, 2, 0, 1)?; // the same bytes, and nothing is wrong with them
+    /// assert_eq!(bank.reasons()[7], 0);
+    ///
+    /// assert_eq!(bank.reject_block(&[], &tile, 2, 0, 1, 0), Err(Refusal::Reason));
+    /// # Ok::<(), Refusal>(())
+    /// ```
+    pub fn reject_block(
+        &mut self,
+        source: &[u8],
+        tile: &Tile,
+        image_siz: u32,
+        dxt: u32,
+        words: u32,
+        reason: u32,
+    ) -> Result<Loaded, Refusal> {
+        let Self { bytes, written: Written { bytes: written, last }, reasons } = self;
+        slices::reject_block(bytes, written, reasons, source, tile, image_siz, dxt, words, reason, last)
+    }
+
+    /// Loads rows as [`Bank::load_tile`] does, of a rejected source, and leaves the reason as [`Bank::reject_block`] does.
+    #[allow(clippy::too_many_arguments)]
+    pub fn reject_tile(
+        &mut self,
+        source: &[u8],
+        tile: &Tile,
+        image_siz: u32,
+        rows: u32,
+        words: u32,
+        stride: u32,
+        reason: u32,
+    ) -> Result<Loaded, Refusal> {
+        let Self { bytes, written: Written { bytes: written, last }, reasons } = self;
+        slices::reject_tile(bytes, written, reasons, source, tile, image_siz, rows, words, stride, reason, last)
+    }
+
+    /// Loads a palette as [`Bank::load_tlut`] does, of a rejected source, and leaves the reason as [`Bank::reject_block`] does.
+    #[allow(clippy::too_many_arguments)]
+    pub fn reject_tlut(
+        &mut self,
+        source: &[u8],
+        tile: &Tile,
+        image_siz: u32,
+        count: u32,
+        rows: u32,
+        stride: u32,
+        reason: u32,
+    ) -> Result<Loaded, Refusal> {
+        let Self { bytes, written: Written { bytes: written, last }, reasons } = self;
+        slices::reject_tlut(bytes, written, reasons, source, tile, image_siz, count, rows, stride, reason, last)
     }
 
     /// The tile's plain picture: `width` by `height` texels of four bytes.
@@ -239,6 +316,27 @@ impl Bank {
         slices::tile_has_load(tile, self.written.bytes())
     }
 
+    /// Whether the tile touches bytes of a rejected load, and why that was rejected: the reason at the first address that has one.
+    ///
+    /// The addresses that the tile can reach ([`Tile::reach`]) are asked first, row by row; on odd rows bytes 4 to 7 of each word before
+    /// 0 to 3, and where (0,3) reaches both halves of the bank each address before the one 2,048 further on. In modes 2 and 3 those of
+    /// the palette follow, rising: the 128 bytes of the tile's palette for `siz` 0, else the upper half.
+    ///
+    /// ```
+    /// use tulonkasa::{Bank, Tile};
+    ///
+    /// let mut bank = Bank::new();
+    /// let tile = Tile { siz: 2, line: 1, width: 4, height: 2, ..Tile::default() };
+    /// bank.load_tile(&[], &tile, 2, 2, 1, 0)?; // both rows
+    /// bank.reject_tile(&[], &Tile { tmem_addr: 1, ..tile }, 2, 1, 1, 0, 7)?; // the second one again
+    /// assert_eq!(bank.rejection(&tile)?, Some(7));
+    /// assert_eq!(bank.rejection(&Tile { height: 1, ..tile })?, None);
+    /// # Ok::<(), tulonkasa::Refusal>(())
+    /// ```
+    pub fn rejection(&self, tile: &Tile) -> Result<Option<u32>, Refusal> {
+        slices::rejection(tile, &self.reasons)
+    }
+
     /// The palette slots whose four pairs of bytes are not all equal.
     pub fn palette_nonreplicated(&self) -> Result<LaneMap, Refusal> {
         let mut map = LaneMap::default();
@@ -283,6 +381,9 @@ impl Bank {
     /// `end` is the length of the capture's companion file, and `part` the file's bytes from the record's offset on: at least as
     /// many as the record states. A key needs none.
     ///
+    /// A record has no reason, so its load is an ordinary one, and takes reasons away where it stores. A load that is to be rejected is
+    /// done by [`Bank::reject_block`] and the like, in between.
+    ///
     /// A load takes the next number; a key and a refused record take none. After the 65,535th load each further one is refused by
     /// [`Refusal::Number`], and keys go on.
     ///
@@ -310,8 +411,8 @@ impl Bank {
     /// # Ok::<(), tulonkasa::Refusal>(())
     /// ```
     pub fn replay_record(&mut self, record: &[u8], end: u64, part: &[u8]) -> Result<u32, Refusal> {
-        let Written { bytes: written, last } = &mut self.written;
-        slices::replay_record(&mut self.bytes, written, record, end, part, last)
+        let Self { bytes, written: Written { bytes: written, last }, reasons } = self;
+        slices::replay_record(bytes, written, reasons, record, end, part, last)
     }
 }
 

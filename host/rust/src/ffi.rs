@@ -62,6 +62,14 @@ pub struct YesAnswer {
     pub yes: u32,
 }
 
+/// A refusal, and the reason of a rejected load, 0 for none.
+#[repr(C)]
+#[derive(Clone, Copy, Debug, PartialEq, Eq)]
+pub struct ReasonAnswer {
+    pub refusal: u32,
+    pub reason: u32,
+}
+
 /// A refusal, and how many entries are for tuning and how many are held out.
 #[repr(C)]
 #[derive(Clone, Copy, Debug, PartialEq, Eq)]
@@ -86,60 +94,29 @@ macro_rules! entries {
     };
 }
 
+/// Declares loads. Each takes the buffers, four numbers of the tile and the image's size, and then numbers of its own.
+macro_rules! loads {
+    ($(fn $name:ident($($number:ident),*);)*) => {
+        extern "C" {
+            $(pub fn $name(
+                bank: *mut u8, bank_length: usize, written: *mut u8, written_length: usize, reasons: *mut u8,
+                reasons_length: usize, source: *const u8, source_length: usize, fmt: u32, siz: u32, line: u32,
+                tmem_addr: u32, image_siz: u32, $($number: u32),*
+            ) -> LoadAnswer;)*
+        }
+    };
+}
+
+loads! {
+    fn tk_load_block(dxt, words, last);
+    fn tk_load_tile(rows, words, stride, last);
+    fn tk_load_tlut(count, rows, stride, last);
+    fn tk_reject_block(dxt, words, reason, last);
+    fn tk_reject_tile(rows, words, stride, reason, last);
+    fn tk_reject_tlut(count, rows, stride, reason, last);
+}
+
 extern "C" {
-    pub fn tk_load_block(
-        bank: *mut u8,
-        bank_length: usize,
-        written: *mut u8,
-        written_length: usize,
-        source: *const u8,
-        source_length: usize,
-        fmt: u32,
-        siz: u32,
-        line: u32,
-        tmem_addr: u32,
-        image_siz: u32,
-        dxt: u32,
-        words: u32,
-        last: u32,
-    ) -> LoadAnswer;
-
-    pub fn tk_load_tile(
-        bank: *mut u8,
-        bank_length: usize,
-        written: *mut u8,
-        written_length: usize,
-        source: *const u8,
-        source_length: usize,
-        fmt: u32,
-        siz: u32,
-        line: u32,
-        tmem_addr: u32,
-        image_siz: u32,
-        rows: u32,
-        words: u32,
-        stride: u32,
-        last: u32,
-    ) -> LoadAnswer;
-
-    pub fn tk_load_tlut(
-        bank: *mut u8,
-        bank_length: usize,
-        written: *mut u8,
-        written_length: usize,
-        source: *const u8,
-        source_length: usize,
-        fmt: u32,
-        siz: u32,
-        line: u32,
-        tmem_addr: u32,
-        image_siz: u32,
-        count: u32,
-        rows: u32,
-        stride: u32,
-        last: u32,
-    ) -> LoadAnswer;
-
     pub fn tk_write_pam(
         width: u32,
         height: u32,
@@ -158,6 +135,8 @@ extern "C" {
         bank_length: usize,
         written: *mut u8,
         written_length: usize,
+        reasons: *mut u8,
+        reasons_length: usize,
         record: *const u8,
         record_length: usize,
         end: u64,
@@ -193,6 +172,8 @@ entries! {
     fn tk_reach(; tile, map: *mut u8, map_length: usize) -> u32;
 
     fn tk_tile_has_load(; tile, written: *const u8, written_length: usize) -> YesAnswer;
+
+    fn tk_rejection(; tile, reasons: *const u8, reasons_length: usize) -> ReasonAnswer;
 
     fn tk_key(bank: *const u8, bank_length: usize; tile, lane: u32, key: *mut u8, key_length: usize) -> Answer;
 }

@@ -1,5 +1,5 @@
-//! Texture memory of a cartridge game console: loads and which of them wrote a byte, pictures (as files too), a key for each picture,
-//! the replay of captured loads, and the [`split`] of captures into tuning and held-out ones.
+//! Texture memory of a cartridge game console: loads, which of them wrote a byte and why its source was rejected if it was, pictures
+//! (as files too), a key for each picture, the replay of captured loads, and the [`split`] of captures into tuning and held-out ones.
 //!
 //! The work is done by a static library whose every function is proved to meet its contract on every input. This crate
 //! gives it Rust's types: a [`Bank`] of memory, a [`Tile`] that says how to read it, and a [`Refusal`] where a number is out
@@ -33,7 +33,7 @@ mod split;
 mod tile;
 mod written;
 
-pub use bank::{Bank, Key, Loaded, Observed, BANK_BYTES, LOOKUP_TEXELS};
+pub use bank::{Bank, Key, Loaded, Observed, BANK_BYTES, LOOKUP_TEXELS, REASON_BYTES, REASON_MOST};
 pub use map::{AddressMap, LaneMap, Map};
 pub use picture::{Picture, PAM_HEADER_MOST};
 pub use refusal::Refusal;

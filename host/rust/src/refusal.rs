@@ -5,8 +5,8 @@ use std::fmt;
 #[derive(Clone, Copy, Debug, PartialEq, Eq, Hash)]
 #[non_exhaustive]
 pub enum Refusal {
-    /// 1: a bank, key, written record or map has a wrong length. The calls of [`crate::slices`] can get it; those on this crate's own
-    /// types can't.
+    /// 1: a bank, key, written record or map, or the reasons, have a wrong length. The calls of [`crate::slices`] can get it; those on
+    /// this crate's own types can't.
     Length,
     /// 2: a field of the tile is out of range, or a side of a picture is above [`crate::SIDE_MOST`].
     Tile,
@@ -43,6 +43,8 @@ pub enum Refusal {
     Entries,
     /// 18: no number is left for a load: there were [`crate::LOADS_MOST`] since the bank was fresh.
     Number,
+    /// 19: the reason of a rejected load is 0 or above [`crate::REASON_MOST`].
+    Reason,
     /// A number that this crate has no name for.
     Other(u32),
 }
@@ -70,6 +72,7 @@ impl Refusal {
             16 => Self::Count,
             17 => Self::Entries,
             18 => Self::Number,
+            19 => Self::Reason,
             other => Self::Other(other),
         })
     }
@@ -95,6 +98,7 @@ impl Refusal {
             Self::Count => 16,
             Self::Entries => 17,
             Self::Number => 18,
+            Self::Reason => 19,
             Self::Other(number) => number,
         }
     }
@@ -111,7 +115,7 @@ impl Refusal {
 impl fmt::Display for Refusal {
     fn fmt(&self, f: &mut fmt::Formatter<'_>) -> fmt::Result {
         let words = match self {
-            Self::Length => "a bank, key, written record or map has a wrong length",
+            Self::Length => "a bank, key, written record or map, or the reasons, have a wrong length",
             Self::Tile => "a field of the tile is out of range, or a side of the picture",
             Self::ModeOrLane => "mode or lane is above 3",
             Self::Load => "a number of the load or its source's length is out of range",
@@ -129,6 +133,7 @@ impl fmt::Display for Refusal {
             Self::Count => "there are more than 4,096 entries",
             Self::Entries => "the entries are not 4,117 bytes each, or the sides not one byte each",
             Self::Number => "there were 65,535 loads, and no number is left for another",
+            Self::Reason => "the reason of a rejected load is not from 1 to 255",
             Self::Other(_) => "a refusal without a name",
         };
         write!(f, "refusal {}: {words}", self.number())

@@ -19,12 +19,12 @@ macro_rules! call {
 
 /// Calls a load of [`ffi`], and takes over the number of the last load.
 macro_rules! load {
-    ($entry:ident($bank:ident, $written:ident, $source:ident, $tile:ident $(, $number:ident)*; $last:ident)) => {{
+    ($entry:ident($bank:ident, $written:ident, $reasons:ident, $source:ident, $tile:ident $(, $number:ident)*; $last:ident)) => {{
         // SAFETY: each pointer comes with its slice's length, and Rust's borrows do not overlap.
         let answer = unsafe {
             ffi::$entry(
-                $bank.as_mut_ptr(), $bank.len(), $written.as_mut_ptr(), $written.len(), $source.as_ptr(), $source.len(),
-                $tile.fmt, $tile.siz, $tile.line, $tile.tmem_addr $(, $number)*, *$last
+                $bank.as_mut_ptr(), $bank.len(), $written.as_mut_ptr(), $written.len(), $reasons.as_mut_ptr(), $reasons.len(),
+                $source.as_ptr(), $source.len(), $tile.fmt, $tile.siz, $tile.line, $tile.tmem_addr $(, $number)*, *$last
             )
         };
         *$last = answer.number;
@@ -34,11 +34,12 @@ macro_rules! load {
 }
 
 /// Answers the count of stores, how many of their bytes were made up, and the load's number. `last` is the number of the last load
-/// before and after the call; a refused one leaves it.
+/// before and after the call; a refused one leaves it. The reasons are 0 where it stored.
 #[allow(clippy::too_many_arguments)]
 pub fn load_block(
     bank: &mut [u8],
     written: &mut [u8],
+    reasons: &mut [u8],
     source: &[u8],
     tile: &Tile,
     image_siz: u32,
@@ -46,7 +47,7 @@ pub fn load_block(
     words: u32,
     last: &mut u32,
 ) -> Result<Loaded, Refusal> {
-    load!(tk_load_block(bank, written, source, tile, image_siz, dxt, words; last))
+    load!(tk_load_block(bank, written, reasons, source, tile, image_siz, dxt, words; last))
 }
 
 /// Answers as [`load_block`] does.
@@ -54,6 +55,7 @@ pub fn load_block(
 pub fn load_tile(
     bank: &mut [u8],
     written: &mut [u8],
+    reasons: &mut [u8],
     source: &[u8],
     tile: &Tile,
     image_siz: u32,
@@ -62,7 +64,7 @@ pub fn load_tile(
     stride: u32,
     last: &mut u32,
 ) -> Result<Loaded, Refusal> {
-    load!(tk_load_tile(bank, written, source, tile, image_siz, rows, words, stride; last))
+    load!(tk_load_tile(bank, written, reasons, source, tile, image_siz, rows, words, stride; last))
 }
 
 /// Answers as [`load_block`] does.
@@ -70,6 +72,7 @@ pub fn load_tile(
 pub fn load_tlut(
     bank: &mut [u8],
     written: &mut [u8],
+    reasons: &mut [u8],
     source: &[u8],
     tile: &Tile,
     image_siz: u32,
@@ -78,7 +81,60 @@ pub fn load_tlut(
     stride: u32,
     last: &mut u32,
 ) -> Result<Loaded, Refusal> {
-    load!(tk_load_tlut(bank, written, source, tile, image_siz, count, rows, stride; last))
+    load!(tk_load_tlut(bank, written, reasons, source, tile, image_siz, count, rows, stride; last))
+}
+
+/// As [`load_block`], of a source that was rejected: its reason is where it stored.
+#[allow(clippy::too_many_arguments)]
+pub fn reject_block(
+    bank: &mut [u8],
+    written: &mut [u8],
+    reasons: &mut [u8],
+    source: &[u8],
+    tile: &Tile,
+    image_siz: u32,
+    dxt: u32,
+    words: u32,
+    reason: u32,
+    last: &mut u32,
+) -> Result<Loaded, Refusal> {
+    load!(tk_reject_block(bank, written, reasons, source, tile, image_siz, dxt, words, reason; last))
+}
+
+/// As [`load_tile`], of a source that was rejected: its reason is where it stored.
+#[allow(clippy::too_many_arguments)]
+pub fn reject_tile(
+    bank: &mut [u8],
+    written: &mut [u8],
+    reasons: &mut [u8],
+    source: &[u8],
+    tile: &Tile,
+    image_siz: u32,
+    rows: u32,
+    words: u32,
+    stride: u32,
+    reason: u32,
+    last: &mut u32,
+) -> Result<Loaded, Refusal> {
+    load!(tk_reject_tile(bank, written, reasons, source, tile, image_siz, rows, words, stride, reason; last))
+}
+
+/// As [`load_tlut`], of a source that was rejected: its reason is where it stored.
+#[allow(clippy::too_many_arguments)]
+pub fn reject_tlut(
+    bank: &mut [u8],
+    written: &mut [u8],
+    reasons: &mut [u8],
+    source: &[u8],
+    tile: &Tile,
+    image_siz: u32,
+    count: u32,
+    rows: u32,
+    stride: u32,
+    reason: u32,
+    last: &mut u32,
+) -> Result<Loaded, Refusal> {
+    load!(tk_reject_tlut(bank, written, reasons, source, tile, image_siz, count, rows, stride, reason; last))
 }
 
 /// Answers which picture the tile calls for.
@@ -148,6 +204,13 @@ pub fn tile_has_load(tile: &Tile, written: &[u8]) -> Result<bool, Refusal> {
     Refusal::check(answer.refusal, answer.yes == 1)
 }
 
+/// Answers the reason at the first address that the tile can reach, or that its palette has, and that has a reason; none if none has.
+pub fn rejection(tile: &Tile, reasons: &[u8]) -> Result<Option<u32>, Refusal> {
+    let (map, length) = (reasons.as_ptr(), reasons.len());
+    let answer = call!(tk_rejection(tile, map, length));
+    Refusal::check(answer.refusal, (answer.reason != 0).then_some(answer.reason))
+}
+
 /// Overwrites the lane map.
 pub fn palette_nonreplicated(bank: &[u8], map: &mut [u8]) -> Result<(), Refusal> {
     // SAFETY: each pointer comes with its slice's length, and Rust's borrows do not overlap.
@@ -161,10 +224,12 @@ pub fn key(bank: &[u8], tile: &Tile, lane: u32, key: &mut [u8]) -> Result<u32, R
 }
 
 /// Does a record of a capture, and answers the count of its stores, or of the bytes that its key would keep. `last` is the number of the
-/// last load before and after it; a key and a refused record leave it.
+/// last load before and after it; a key and a refused record leave it. A record's load is an ordinary one: the reasons are 0 where it
+/// stored.
 pub fn replay_record(
     bank: &mut [u8],
     written: &mut [u8],
+    reasons: &mut [u8],
     record: &[u8],
     end: u64,
     part: &[u8],
@@ -177,6 +242,8 @@ pub fn replay_record(
             bank.len(),
             written.as_mut_ptr(),
             written.len(),
+            reasons.as_mut_ptr(),
+            reasons.len(),
             record.as_ptr(),
             record.len(),
             end,

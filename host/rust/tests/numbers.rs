@@ -1,23 +1,8 @@
 //! Which load wrote it: the numbers that loads and replays take, store and hand back.
-use tulonkasa::{ffi, slices, Bank, Loaded, Refusal, Tile, BANK_BYTES, LOADS_MOST, WRITTEN_BYTES};
+mod memory;
 
-/// The buffers that a load changes.
-#[derive(Clone, PartialEq, Eq)]
-struct Memory {
-    bank: [u8; BANK_BYTES],
-    written: [u8; WRITTEN_BYTES],
-}
-
-impl Memory {
-    fn fresh() -> Self {
-        Self { bank: [0; BANK_BYTES], written: [0; WRITTEN_BYTES] }
-    }
-
-    /// The two bytes of an address.
-    fn at(&self, address: usize) -> [u8; 2] {
-        [self.written[2 * address], self.written[2 * address + 1]]
-    }
-}
+use memory::{record, Load, Memory, LOADS, STORED, WORD};
+use tulonkasa::{ffi, slices, Bank, Loaded, Refusal, Tile, BANK_BYTES, LOADS_MOST, REASON_BYTES, WRITTEN_BYTES};
 
 /// Numbers that may be passed, with the two bytes of the one after each.
 const PASSED: [(u32, [u8; 2]); 8] = [
@@ -34,53 +19,28 @@ const PASSED: [(u32, [u8; 2]); 8] = [
 /// Numbers that may not be.
 const PAST: [u32; 5] = [65535, 65536, 65536 + 255, 1 << 31, u32::MAX];
 
-/// A word of eight bytes at address 16.
-const WORD: Tile = Tile {
-    fmt: 0,
-    siz: 2,
-    palette: 0,
-    mode: 0,
-    cms: 0,
-    cmt: 0,
-    masks: 0,
-    maskt: 0,
-    line: 1,
-    tmem_addr: 2,
-    width: 0,
-    height: 0,
-};
+/// Each load, as an ordinary one and as a rejected one.
+fn every_load() -> impl Iterator<Item = (Load, Option<u32>)> {
+    LOADS.into_iter().flat_map(|load| [None, Some(77)].map(|reason| (load, reason)))
+}
 
-/// A load of some bytes into a memory, by a tile and an image size.
-type Load = fn(&mut Memory, &[u8], &Tile, u32, &mut u32) -> Result<Loaded, Refusal>;
-
-/// Each load: of one word or palette entry, eight bytes at the tile's address.
-const LOADS: [Load; 4] = [
-    |memory, source, tile, image_siz, last| {
-        slices::load_block(&mut memory.bank, &mut memory.written, source, tile, image_siz, 0, 1, last)
-    },
-    |memory, source, tile, image_siz, last| {
-        slices::load_tile(&mut memory.bank, &mut memory.written, source, tile, image_siz, 1, 1, 0, last)
-    },
-    |memory, source, tile, image_siz, last| {
-        slices::load_tlut(&mut memory.bank, &mut memory.written, source, tile, image_siz, 1, 1, 0, last)
-    },
-    |memory, source, tile, _, last| {
-        slices::load_tlut(&mut memory.bank, &mut memory.written, source, tile, 0, 1, 1, 0, last)
-    },
-];
+/// The two bytes of an address.
+fn number_bytes(memory: &Memory, address: usize) -> [u8; 2] {
+    [memory.written[2 * address], memory.written[2 * address + 1]]
+}
 
 #[test]
 fn a_load_stores_the_number_after_the_one_passed() {
-    for load in LOADS {
+    for (load, reason) in every_load() {
         for (passed, bytes) in PASSED {
             let (mut memory, mut last) = (Memory::fresh(), passed);
             memory.written.fill(9);
-            let answer = load(&mut memory, &[7; 8], &WORD, 2, &mut last);
+            let answer = load(&mut memory, &[7; 8], &WORD, reason, &mut last);
             assert_eq!(answer, Ok(Loaded { count: 8, made_up: 0, number: passed + 1 }));
             assert_eq!(last, passed + 1);
             for address in 0..BANK_BYTES {
-                let due = if (16..24).contains(&address) { bytes } else { [9, 9] };
-                assert_eq!(memory.at(address), due, "address {address} after {passed}");
+                let due = if STORED.contains(&address) { bytes } else { [9, 9] };
+                assert_eq!(number_bytes(&memory, address), due, "address {address} after {passed}");
             }
         }
     }
@@ -88,10 +48,10 @@ fn a_load_stores_the_number_after_the_one_passed() {
 
 #[test]
 fn no_number_is_left_past_65534() {
-    for load in LOADS {
+    for (load, reason) in every_load() {
         for passed in PAST {
             let (mut memory, mut last) = (Memory::fresh(), passed);
-            let answer = load(&mut memory, &[7; 8], &WORD, 2, &mut last);
+            let answer = load(&mut memory, &[7; 8], &WORD, reason, &mut last);
             assert_eq!((answer, last), (Err(Refusal::Number), passed));
             assert!(memory == Memory::fresh());
         }
@@ -101,12 +61,12 @@ fn no_number_is_left_past_65534() {
 #[test]
 fn a_refused_load_hands_back_the_number_passed() {
     let wide = Tile { fmt: 8, ..WORD };
-    for load in LOADS {
+    for (load, reason) in every_load() {
         for passed in PASSED.map(|(passed, _)| passed).into_iter().chain(PAST) {
             // 2 and 4 come before 18.
             for (tile, source, refusal) in [(&wide, 8, Refusal::Tile), (&WORD, 65537, Refusal::Load)] {
                 let (mut memory, mut last) = (Memory::fresh(), passed);
-                let answer = load(&mut memory, &vec![7; source], tile, 2, &mut last);
+                let answer = load(&mut memory, &vec![7; source], tile, reason, &mut last);
                 assert_eq!((answer, last), (Err(refusal), passed));
                 assert!(memory == Memory::fresh());
             }
@@ -118,11 +78,29 @@ fn a_refused_load_hands_back_the_number_passed() {
 fn beside_a_refusal_everything_else_is_zero() {
     let mut memory = Memory::fresh();
     let mut refused = |written_length, fmt, image_siz, last| {
-        let (bank, written) = (&mut memory.bank, &mut memory.written);
+        let Memory { bank, written, reasons } = &mut memory;
+        let (bank, written, reasons) = (bank.as_mut_ptr(), written.as_mut_ptr(), reasons.as_mut_ptr());
+        let (reasons_length, source) = (REASON_BYTES, [7; 8].as_ptr());
         // SAFETY: each length is that of its buffer, or less.
         let answer = unsafe {
-            let (bank, written, source) = (bank.as_mut_ptr(), written.as_mut_ptr(), [7; 8].as_ptr());
-            ffi::tk_load_block(bank, BANK_BYTES, written, written_length, source, 8, fmt, 2, 0, 0, image_siz, 0, 1, last)
+            ffi::tk_load_block(
+                bank,
+                BANK_BYTES,
+                written,
+                written_length,
+                reasons,
+                reasons_length,
+                source,
+                8,
+                fmt,
+                2,
+                0,
+                0,
+                image_siz,
+                0,
+                1,
+                last,
+            )
         };
         assert!(memory == Memory::fresh());
         answer
@@ -172,7 +150,7 @@ fn the_last_load_counts() {
     assert_eq!(bank.load_tile(&[], &Tile { tmem_addr: 3, ..WORD }, 2, 1, 1, 0).map(|loaded| loaded.number), Ok(2)); // 24 to 31
     assert_eq!(bank.load_block(&[], &WORD, 2, 0, 0).map(|loaded| loaded.number), Ok(3)); // nothing
     assert_eq!(bank.load_block(&[], &WORD, 4, 0, 3), Err(Refusal::Load));
-    assert_eq!(bank.load_tlut(&[], &Tile { tmem_addr: 4, ..WORD }, 2, 1, 1, 0).map(|loaded| loaded.number), Ok(4)); // 32 to 39
+    assert_eq!(bank.reject_tlut(&[], &Tile { tmem_addr: 4, ..WORD }, 2, 1, 1, 0, 7).map(|loaded| loaded.number), Ok(4)); // 32 to 39
     let written = bank.written();
     assert_eq!([15, 16, 23, 24, 31, 32, 39, 40].map(|address| written.number_at(address)), [0, 1, 1, 2, 2, 4, 4, 0]);
     assert_eq!(written.addresses().collect::<Vec<_>>(), (16..40).collect::<Vec<_>>());
@@ -190,15 +168,6 @@ fn a_changed_byte_keeps_its_number() {
     bank.bytes_mut().fill(5);
     assert_eq!(bank.written(), &written);
     assert_eq!(Bank::from(*bank.bytes()).written().last(), 0);
-}
-
-/// A record that loads so many words to a word address; a kind of 3 asks for a key of one texel instead.
-fn record(kind: u8, words: u8, tmem_addr: u8) -> [u8; 48] {
-    let mut record = [0; 48];
-    for (place, byte) in [(0, kind), (3, 2), (13, tmem_addr), (15, 1), (17, 1), (19, 2), (23, words)] {
-        record[place] = byte;
-    }
-    record
 }
 
 #[test]
@@ -222,8 +191,9 @@ fn keys_and_refused_records_take_no_number() {
 fn a_record_gets_and_gives_the_last_number() {
     let replay = |record: &[u8], last: u32| {
         let (mut memory, mut after) = (Memory::fresh(), last);
-        let answer = slices::replay_record(&mut memory.bank, &mut memory.written, record, 0, &[], &mut after);
-        (answer.map_err(Refusal::number), after, memory.at(0))
+        let Memory { bank, written, reasons } = &mut memory;
+        let answer = slices::replay_record(bank, written, reasons, record, 0, &[], &mut after);
+        (answer.map_err(Refusal::number), after, number_bytes(&memory, 0))
     };
     let (block, key) = (record(0, 1, 0), record(3, 0, 0));
     for (passed, bytes) in PASSED {

@@ -1,6 +1,7 @@
 //! A run's input: the records of a capture, and what stands in their companion file.
+use crate::buffers::found_reasons;
 use crate::case::{Call, Case, Fill};
-use original::calls::Load;
+use original::calls::{Bytes, Load};
 use std::fmt;
 use std::ops::Range;
 use tulonkasa::Tile;
@@ -40,12 +41,14 @@ pub mod place {
     pub const LENGTH: usize = 34;
 }
 
-/// A record, and how much of the companion is lent with it.
+/// A record, how much of the companion is lent with it, and whether its load is rejected.
 #[derive(Clone, Copy)]
 pub struct Record {
     pub bytes: [u8; RECORD_BYTES],
     /// How many bytes more than the stated ones are lent, -1 for one fewer. The program is lent none.
     pub surplus: i32,
+    /// The reason with which its load is rejected, by its own call alone.
+    pub reason: Option<u32>,
 }
 
 impl Record {
@@ -96,7 +99,8 @@ impl Record {
             KEY => (Call::Key, [0; 3]),
             _ => return None,
         };
-        Some(Case { lane: self.lane(), image_siz: self.image_siz(), numbers, ..Case::new(call, self.tile()) })
+        let (lane, image_siz, reason) = (self.lane(), self.image_siz(), self.reason);
+        Some(Case { lane, image_siz, numbers, reason, ..Case::new(call, self.tile()) })
     }
 
     /// The load's own numbers; none if it is no load.
@@ -149,8 +153,8 @@ pub const END_BYTES: u64 = 1 << 17;
 /// By what a run is replayed.
 #[derive(Clone, Copy, Debug, PartialEq, Eq)]
 pub enum By {
-    /// The own call of each load and key. Records that no such call stands for are left out: of an unknown kind, and with a source
-    /// beyond the companion.
+    /// The own call of each load and key; and at each key the question whether the tile touches a rejected load. Records that no such
+    /// call stands for are left out: of an unknown kind, and with a source beyond the companion.
     OwnCalls,
     /// A call of the archive for each record.
     Call,
@@ -176,6 +180,11 @@ impl Run {
         let mut bytes: Vec<u8> = self.records.iter().flat_map(|record| record.bytes).collect();
         bytes.extend(&self.tail);
         bytes
+    }
+
+    /// The reasons that it finds, by calls. The program finds none.
+    pub fn reasons(&self) -> Bytes {
+        found_reasons(self.companion.fill, self.companion.seed + 2)
     }
 
     /// How large its numbers are, to print the smallest of several.
@@ -204,6 +213,7 @@ impl fmt::Display for Record {
         write!(f, "    image_siz {}, dxt {}, ", number(place::IMAGE_SIZ), number(place::DXT))?;
         write!(f, "words {}, rows {}, ", number(place::WORDS), number(place::ROWS))?;
         write!(f, "count {}, stride {}, ", number(place::COUNT), number(place::STRIDE))?;
-        write!(f, "offset {}, length {}, surplus {}", self.offset(), self.length(), self.surplus)
+        write!(f, "offset {}, length {}, surplus {}, ", self.offset(), self.length(), self.surplus)?;
+        write!(f, "reason {:?}", self.reason)
     }
 }

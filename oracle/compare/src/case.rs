@@ -14,6 +14,7 @@ pub enum Call {
     Picture { which: Picture, observed: bool },
     Reach,
     TileHasLoad,
+    Rejection,
     PaletteNonreplicated,
     Key,
 }
@@ -35,8 +36,11 @@ pub struct Case {
     pub lane: u32,
     pub image_siz: u32,
     /// dxt and words; or rows, words and stride; or count, rows and stride. For `TileHasLoad`: the word address, words and
-    /// rows of the tile load that writes before the question.
+    /// rows of the tile load that writes before the question. For `Rejection`: three addresses that have a reason; a larger number
+    /// for none.
     pub numbers: [u32; 3],
+    /// With a reason a load is a rejected one.
+    pub reason: Option<u32>,
     /// The number of the load before.
     pub last: u32,
     pub source_length: u32,
@@ -73,6 +77,7 @@ impl Case {
             lane: 0,
             image_siz: 0,
             numbers: [0; 3],
+            reason: None,
             last: 0,
             source_length: 0,
             surplus: 0,
@@ -125,6 +130,7 @@ impl Case {
             &mut self.source_length,
         ];
         numbers.extend(self.numbers.iter_mut());
+        numbers.extend(self.reason.as_mut());
         numbers
     }
 
@@ -158,7 +164,8 @@ impl fmt::Display for Case {
         writeln!(f, "  call: {:?}", self.call)?;
         writeln!(f, "  {:?}", self.tile)?;
         writeln!(f, "  lane: {}, image_siz: {}, numbers: {a}, {b}, {c}", self.lane, self.image_siz)?;
-        writeln!(f, "  last: {}, source: {} bytes, surplus: {}", self.last, self.source_length, self.surplus)?;
-        write!(f, "  bank and source: {:?}, seed {}", self.fill, self.seed)
+        writeln!(f, "  reason: {:?}, last: {}", self.reason, self.last)?;
+        writeln!(f, "  source: {} bytes, surplus: {}", self.source_length, self.surplus)?;
+        write!(f, "  bank, source and reasons: {:?}, seed {}", self.fill, self.seed)
     }
 }

@@ -1,11 +1,12 @@
 //! One case, done by the original and by the archive: answers, buffers, and bytes that must not have changed.
+use crate::buffers::{asked_reasons, found_reasons, Buffers};
 use crate::case::{descriptor, Call, Case, Fill};
 use crate::input::Input;
-use crate::numbers::{self, Written};
+use crate::numbers;
 use crate::program::Program;
 use crate::random::Random;
 use crate::replay;
-use original::calls::{self, Bytes, Counted, Load, Map, Memory, Picture, Reach};
+use original::calls::{self, Bytes, Counted, Map, Memory, Picture, Reach};
 use std::ops::AddAssign;
 use tulonkasa::{slices, Loaded, Refusal, Sampling, Tile, LOOKUP_TEXELS};
 
@@ -15,14 +16,12 @@ pub const BEFORE: u8 = 0xa5;
 /// So many bytes behind a lent picture or trail are looked at too.
 const FENCE: usize = 64;
 
-/// The memory's own map, which is slow to read, is compared at one load in so many.
-const OWN_MAP_EVERY: u64 = 16;
-
 /// How much was compared.
 #[derive(Clone, Copy, Default)]
 pub struct Amount {
     pub calls: u64,
     pub refused: u64,
+    pub reasons: u64,
     pub stores: u64,
     pub made_up: u64,
     pub texels: u64,
@@ -33,6 +32,7 @@ impl AddAssign for Amount {
     fn add_assign(&mut self, other: Self) {
         self.calls += other.calls;
         self.refused += other.refused;
+        self.reasons += other.reasons;
         self.stores += other.stores;
         self.made_up += other.made_up;
         self.texels += other.texels;
@@ -48,7 +48,8 @@ pub struct Workspace {
     trail: Vec<u8>,
     expected_trail: Vec<u8>,
     reach: Reach,
-    loads: u64,
+    /// What is asked for reasons.
+    asked: Memory,
     program: Option<Program>,
 }
 
@@ -61,7 +62,7 @@ impl Workspace {
             trail: vec![BEFORE; (8 << 20) + 2 * FENCE],
             expected_trail: Vec::new(),
             reach: Reach::default(),
-            loads: 0,
+            asked: Memory::fresh(),
             program,
         }
     }
@@ -83,6 +84,7 @@ impl Workspace {
             Call::Picture { which, observed } => self.picture(case, which, observed),
             Call::Reach => self.reach(case),
             Call::TileHasLoad => has_load(case),
+            Call::Rejection => self.rejection(case),
             Call::PaletteNonreplicated => lanes(&bank),
             Call::Key => key(&self.bank, case),
         }?;
@@ -94,29 +96,35 @@ impl Workspace {
         let source = &mut self.source[..case.source_length as usize];
         fill(source, case.fill, case.seed + 1);
         let untouched = source.to_vec();
-        let before = numbers::found(case.fill, case.seed + 2);
-        let (mut bank, mut written, mut last) = (self.bank.clone(), before, case.last);
-        let answer = archive_load(&mut bank[..], &mut written, source, case, &mut last);
+        let before = Buffers {
+            bank: *self.bank,
+            written: numbers::found(case.fill, case.seed + 2),
+            reasons: found_reasons(case.fill, case.seed + 4),
+        };
+        let (mut buffers, mut last) = (before.clone(), case.last);
+        let answer = archive_load(&mut buffers, source, case, &mut last);
         same("the source", &untouched, source)?;
 
-        let Some(number) = numbers::after(case.last) else {
-            same_answer(Err(Refusal::Number), answer)?;
-            same_number(case.last, last)?;
-            same("the bank", &self.bank[..], &bank[..])?;
-            same("the written record", &before, &written)?;
-            return Ok(Amount { refused: 1, ..Amount::default() });
+        let number = match number(case.reason, case.last) {
+            Ok(number) => number,
+            Err(refusal) => {
+                same_answer(Err(refusal), answer)?;
+                same_number(case.last, last)?;
+                Buffers::same(&before, &buffers)?;
+                return Ok(Amount { refused: 1, ..Amount::default() });
+            }
         };
-        let mut memory = Memory::new(&self.bank);
-        let image_siz = case.image_siz as u8;
-        let counted = memory.load_counted(&untouched, &descriptor(&case.tile), image_siz, case.load());
+        let mut memory = Memory::new(&before.bank);
+        memory.set_reasons(&before.reasons);
+        let (tile, image_siz) = (descriptor(&case.tile), case.image_siz as u8);
+        let counted = memory.load_counted(&untouched, &tile, image_siz, case.load(), case.reason);
         same_loaded(&counted, number, answer)?;
         same_number(number, last)?;
-        same("the bank", &memory.bytes()[..], &bank[..])?;
-        same_record(&before, &counted.marks, number, &written)?;
-        self.loads += 1;
-        if self.loads.is_multiple_of(OWN_MAP_EVERY) {
-            same("the original's own map and the addresses that it stored to", &memory.written(), &counted.marks)?;
-        }
+        let mut written = before.written;
+        numbers::store(&mut written, &counted.marks, number);
+        Buffers::same(&Buffers { bank: *memory.bytes(), written, reasons: memory.reasons() }, &buffers)?;
+        let marks = numbers::either(&numbers::marks(&before.written), &memory.written());
+        same("the written addresses", &marks, &numbers::marks(&buffers.written))?;
         Ok(Amount { stores: counted.stores.into(), made_up: counted.made_up.into(), ..Amount::default() })
     }
 
@@ -187,21 +195,38 @@ impl Workspace {
         has_load_of_reach(case, &expected)?;
         Ok(Amount::default())
     }
+
+    fn rejection(&mut self, case: &Case) -> Result<Amount, String> {
+        let reasons = asked_reasons(case);
+        self.asked.set_reasons(&reasons);
+        same_rejection(&self.asked, &case.tile, &reasons)
+    }
 }
 
 /// The archive's load, after one of the number `last`.
-pub fn archive_load(
-    bank: &mut [u8],
-    written: &mut [u8],
-    source: &[u8],
-    case: &Case,
-    last: &mut u32,
-) -> Result<Loaded, Refusal> {
-    let [a, b, c] = case.numbers;
-    match case.call {
-        Call::LoadBlock => slices::load_block(bank, written, source, &case.tile, case.image_siz, a, b, last),
-        Call::LoadTlut => slices::load_tlut(bank, written, source, &case.tile, case.image_siz, a, b, c, last),
-        _ => slices::load_tile(bank, written, source, &case.tile, case.image_siz, a, b, c, last),
+pub fn archive_load(buffers: &mut Buffers, source: &[u8], case: &Case, last: &mut u32) -> Result<Loaded, Refusal> {
+    let Buffers { bank, written, reasons: map } = buffers;
+    let (tile, image_siz, [a, b, c]) = (&case.tile, case.image_siz, case.numbers);
+    match (case.call, case.reason) {
+        (Call::LoadBlock, None) => slices::load_block(bank, written, map, source, tile, image_siz, a, b, last),
+        (Call::LoadBlock, Some(reason)) => {
+            slices::reject_block(bank, written, map, source, tile, image_siz, a, b, reason, last)
+        }
+        (Call::LoadTlut, None) => slices::load_tlut(bank, written, map, source, tile, image_siz, a, b, c, last),
+        (Call::LoadTlut, Some(reason)) => {
+            slices::reject_tlut(bank, written, map, source, tile, image_siz, a, b, c, reason, last)
+        }
+        (_, None) => slices::load_tile(bank, written, map, source, tile, image_siz, a, b, c, last),
+        (_, Some(reason)) => slices::reject_tile(bank, written, map, source, tile, image_siz, a, b, c, reason, last),
+    }
+}
+
+/// The number of the load after the one with the number `last`; or the refusal by its reason, or where no number is left. The original
+/// has none of these.
+pub fn number(reason: Option<u32>, last: u32) -> Result<u32, Refusal> {
+    match reason {
+        Some(0 | 256..) => Err(Refusal::Reason),
+        _ => numbers::after(last).ok_or(Refusal::Number),
     }
 }
 
@@ -215,16 +240,25 @@ fn sampling(case: &Case) -> Result<Amount, String> {
 fn has_load(case: &Case) -> Result<Amount, String> {
     let [tmem_addr, words, rows] = case.numbers;
     let loaded = Tile { tmem_addr, ..case.tile };
-    let (mut bank, mut written, mut last) = ([0; 4096], numbers::FRESH, case.last);
-    let answer = slices::load_tile(&mut bank, &mut written, &[], &loaded, case.image_siz, rows, words, 8, &mut last);
+    let load = Case { call: Call::LoadTile, tile: loaded, numbers: [rows, words, 8], ..*case };
+    let (mut buffers, mut last) = (Buffers { bank: [0; 4096], written: numbers::FRESH, reasons: [0; 4096] }, case.last);
+    let answer = archive_load(&mut buffers, &[], &load, &mut last);
 
-    let mut memory = Memory::new(&bank);
-    let load = Load::Tile { rows: rows as usize, words: words as usize, stride: 8 };
-    let counted = memory.load_counted(&[], &descriptor(&loaded), case.image_siz as u8, load);
+    let mut memory = Memory::fresh();
+    let counted = memory.load_counted(&[], &descriptor(&loaded), case.image_siz as u8, load.load(), None);
     same_loaded(&counted, case.last + 1, answer)?;
     let yes = memory.tile_has_load(&descriptor(&case.tile), case.tile.mode as u8);
-    same_answer(Ok(yes), slices::tile_has_load(&case.tile, &written))?;
+    same_answer(Ok(yes), slices::tile_has_load(&case.tile, &buffers.written))?;
     Ok(Amount::default())
+}
+
+/// The question, in the original's memory and of the archive's reasons.
+pub fn same_rejection(memory: &Memory, tile: &Tile, reasons: &Bytes) -> Result<Amount, String> {
+    let lent = *reasons;
+    let due = memory.rejection(&descriptor(tile), tile.mode as u8);
+    same_answer(Ok(due), slices::rejection(tile, &lent))?;
+    same("the reasons that were lent to be read", reasons, &lent)?;
+    Ok(Amount { reasons: due.is_some().into(), ..Amount::default() })
 }
 
 /// The archive's question against the original's reach, for records that no load leaves: all but the reach, one address of it,
@@ -318,14 +352,6 @@ pub fn same_number(due: u32, archive: u32) -> Result<(), String> {
         return Ok(());
     }
     Err(format!("the last number is {due}, the archive hands back {archive}"))
-}
-
-/// The record after a load: its number where the original stored, else as before. And what is not zero, against the marks alone.
-fn same_record(before: &Written, stored: &Map, number: u32, archive: &Written) -> Result<(), String> {
-    let mut due = *before;
-    numbers::store(&mut due, stored, number);
-    same("the written record", &due, archive)?;
-    same("the written addresses", &numbers::either(&numbers::marks(before), stored), &numbers::marks(archive))
 }
 
 pub fn same(what: &str, original: &[u8], archive: &[u8]) -> Result<(), String> {

@@ -5,6 +5,7 @@
 //! The words are those that start the replay program, which then gets a companion's name and records on standard input.
 //! Prints what was compared, with counts. At a difference it prints the smallest failing input that it can find, and its
 //! exit status is 1.
+mod buffers;
 mod capture;
 mod case;
 mod check;
@@ -33,10 +34,13 @@ struct Work {
 }
 
 /// The kinds of comparison, as they are printed.
-const KINDS: [&str; 15] = [
+const KINDS: [&str; 19] = [
     "block loads",
     "tile loads",
     "TLUT loads",
+    "rejected block loads",
+    "rejected tile loads",
+    "rejected TLUT loads",
     "flags and extents",
     "pictures",
     "pictures with trail",
@@ -44,6 +48,7 @@ const KINDS: [&str; 15] = [
     "lookups with trail",
     "reaches",
     "has-load after a load",
+    "rejections",
     "lane checks",
     "keys",
     "calls in a row",
@@ -55,19 +60,21 @@ fn kind(input: &Input) -> usize {
     use original::calls::Picture::{Lookup, Plain};
     let case = match input {
         Input::Case(case) => case,
-        Input::Run(run) => return 12 + run.by as usize,
+        Input::Run(run) => return 16 + run.by as usize,
     };
+    let rejected = usize::from(case.reason.is_some());
     match case.call {
-        Call::LoadBlock => 0,
-        Call::LoadTile => 1,
-        Call::LoadTlut => 2,
-        Call::Sampling => 3,
-        Call::Picture { which: Plain, observed } => 4 + usize::from(observed),
-        Call::Picture { which: Lookup, observed } => 6 + usize::from(observed),
-        Call::Reach => 8,
-        Call::TileHasLoad => 9,
-        Call::PaletteNonreplicated => 10,
-        Call::Key => 11,
+        Call::LoadBlock => 3 * rejected,
+        Call::LoadTile => 1 + 3 * rejected,
+        Call::LoadTlut => 2 + 3 * rejected,
+        Call::Sampling => 6,
+        Call::Picture { which: Plain, observed } => 7 + usize::from(observed),
+        Call::Picture { which: Lookup, observed } => 9 + usize::from(observed),
+        Call::Reach => 11,
+        Call::TileHasLoad => 12,
+        Call::Rejection => 13,
+        Call::PaletteNonreplicated => 14,
+        Call::Key => 15,
     }
 }
 
@@ -146,9 +153,15 @@ fn print(works: &[Work], seed: u64, took: Duration) {
 }
 
 fn words(amount: &Amount) -> String {
-    let Amount { calls, refused, stores, made_up, texels, reads } = *amount;
-    let parts =
-        [(refused, "of them refused"), (stores, "stores"), (made_up, "made up"), (texels, "texels"), (reads, "reads")];
+    let Amount { calls, refused, reasons, stores, made_up, texels, reads } = *amount;
+    let parts = [
+        (refused, "of them refused"),
+        (reasons, "reasons answered"),
+        (stores, "stores"),
+        (made_up, "made up"),
+        (texels, "texels"),
+        (reads, "reads"),
+    ];
     let parts = parts.iter().filter(|(number, _)| *number > 0);
     parts.fold(format!("{:>12} calls", grouped(calls)), |text, (number, name)| {
         format!("{text}, {} {name}", grouped(*number))

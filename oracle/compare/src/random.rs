@@ -98,10 +98,17 @@ impl Random {
             Call::LoadTlut if few => [self.near(256), 1 + self.near(7), self.near(65535)],
             Call::LoadTlut => [self.near(1024), 1 + self.near(1023), self.near(65535)],
             Call::TileHasLoad => [self.near(511), self.near(3), self.near(2)],
+            Call::Rejection => std::array::from_fn(|_| self.reasoned_address(&case.tile)),
             _ => [0; 3],
         };
         if call == Call::LoadTlut && self.to(1) == 0 {
             case.numbers[1] = 1;
+        }
+        if call == Call::Rejection && self.to(7) != 0 {
+            case.fill = Fill::Zero;
+        }
+        if matches!(call, Call::LoadBlock | Call::LoadTile | Call::LoadTlut) {
+            case.reason = self.reason();
         }
         case.last = match call {
             Call::TileHasLoad => self.near(65534),
@@ -117,6 +124,28 @@ impl Random {
             0 => 65536 - self.to(32),
             1 => 65535 + self.near(u32::MAX - 65535),
             _ => self.near(65534),
+        }
+    }
+
+    /// None of an ordinary load, else mostly one that is taken.
+    fn reason(&mut self) -> Option<u32> {
+        match self.to(15) {
+            0..=7 => None,
+            8 => Some(0),
+            9 => Some(256 + self.near(u32::MAX - 256)),
+            _ => Some(1 + self.near(254)),
+        }
+    }
+
+    /// An address for a reason: one that the tile reaches or one close by, in its palette or beside it, any, or none.
+    fn reasoned_address(&mut self, tile: &Tile) -> u32 {
+        let row_bytes = (tile.width << tile.siz.min(2)) / 2;
+        let row = tile.tmem_addr + self.to(tile.height.min(3)) * tile.line;
+        match self.to(7) {
+            0..=2 => 4096,
+            3 => self.to(4095),
+            4 => (2047 + 128 * tile.palette + self.near(129)).min(4095),
+            _ => (8 * row + self.near(row_bytes + 1) + self.pick(&[0, 0, 0, 2048])) % 4096,
         }
     }
 
@@ -152,7 +181,7 @@ impl Random {
 
     /// A record: any bytes, then numbers in range in the fields that its kind takes, then a byte or more changed in some.
     fn record(&mut self, by: By, companion_length: u64) -> Record {
-        let mut record = Record { bytes: [0; RECORD_BYTES], surplus: 0 };
+        let mut record = Record { bytes: [0; RECORD_BYTES], surplus: 0, reason: None };
         self.fill(&mut record.bytes);
         let kind = self.pick(&[BLOCK, TILE, TLUT, KEY]);
         let tile = self.tile(1 << 10);
@@ -171,6 +200,9 @@ impl Random {
             });
             if by == By::Call {
                 record.surplus = self.pick(&[0, 0, 0, 1, 7, 64, -1]);
+            }
+            if by == By::OwnCalls {
+                record.reason = self.reason();
             }
         }
         while self.to(7) == 0 {
@@ -202,7 +234,7 @@ impl Random {
 }
 
 /// The calls, each as often as it is to be tried.
-const CALLS: [Call; 15] = [
+const CALLS: [Call; 17] = [
     Call::LoadBlock,
     Call::LoadTile,
     Call::LoadTlut,
@@ -216,6 +248,8 @@ const CALLS: [Call; 15] = [
     Call::Picture { which: Picture::Lookup, observed: true },
     Call::Reach,
     Call::TileHasLoad,
+    Call::Rejection,
+    Call::Rejection,
     Call::PaletteNonreplicated,
     Call::Key,
 ];

@@ -1,10 +1,11 @@
 //! One run of records, done by the original's loads and keys, and by the archive or the program.
+use crate::buffers::Buffers;
 use crate::capture::{By, Companion, Record, Run, END_BYTES, KEY, RECORD_BYTES};
 use crate::case::{descriptor, Call};
-use crate::check::{archive_load, fill, same, same_answer, same_number, Amount, BEFORE};
+use crate::check::{archive_load, fill, number, same, same_answer, same_number, same_rejection, Amount, BEFORE};
 use crate::numbers::{self, Written};
 use crate::program::Program;
-use original::calls::{self, Load, Map, Memory};
+use original::calls::{self, Load, Memory};
 use tulonkasa::{slices, Refusal, Tile};
 
 /// A load's source has at most this many bytes.
@@ -56,8 +57,9 @@ pub fn check(run: &Run, program: Option<&Program>) -> Result<Amount, String> {
 
 fn by_calls(run: &Run, file: &File) -> Result<Amount, String> {
     let mut original = Original::new(file, run.last);
+    original.memory.set_reasons(&run.reasons());
     let mut amount = Amount::default();
-    let (mut bank, mut written, mut last) = ([0; 4096], numbers::FRESH, run.last);
+    let (mut buffers, mut last) = (original.buffers(), run.last);
     let bytes = run.bytes();
     // What follows a record is lent with it.
     let lent = |i: usize| &bytes[i * RECORD_BYTES..];
@@ -70,37 +72,42 @@ fn by_calls(run: &Run, file: &File) -> Result<Amount, String> {
         let mut part = file.part(record.offset(), lent_part(record));
         part.resize(lent_part(record) as usize, BEFORE);
         let answer = match run.by {
-            By::OwnCalls => own_call(&mut bank, &mut written, record, &part, &mut last),
-            _ => slices::replay_record(&mut bank, &mut written, lent(i), file.length, &part, &mut last),
+            By::OwnCalls => own_call(&mut buffers, record, &part, &mut last),
+            _ => replay_call(&mut buffers, lent(i), file.length, &part, &mut last),
         };
+        let is_asked = run.by == By::OwnCalls && record.kind() == KEY && matches!(due, Ok(_) | Err(Refusal::Pair));
         same_answer(due, answer)
-            .and_then(|()| same_number(original.last, last))
-            .and_then(|()| same("the bank", &original.memory.bytes()[..], &bank))
-            .and_then(|()| same("the written record", &original.written, &written))
-            .and_then(|()| same("the written addresses", &original.marks, &numbers::marks(&written)))
+            .and_then(|()| original.same(&buffers, last))
+            .and_then(|()| match is_asked {
+                true => same_rejection(&original.memory, &record.tile(), &buffers.reasons),
+                false => Ok(Amount::default()),
+            })
+            .map(|asked| amount += asked)
             .map_err(|why| format!("record {i}: {why}"))?;
         amount += counted(record, due);
     }
     if run.by == By::Call && !run.tail.is_empty() {
-        let tail = lent(run.records.len());
-        let answer = slices::replay_record(&mut bank, &mut written, tail, file.length, &file.front, &mut last);
+        let answer = replay_call(&mut buffers, lent(run.records.len()), file.length, &file.front, &mut last);
         same_answer(Err(Refusal::Torn), answer)?;
         amount += torn();
     }
-    same_number(original.last, last)?;
-    same("the bank at the end", &original.memory.bytes()[..], &bank)?;
-    same("the written record at the end", &original.written, &written)?;
-    same("the original's own map", &original.memory.written(), &numbers::marks(&written))?;
+    original.same(&buffers, last).map_err(|why| format!("at the end: {why}"))?;
     Ok(amount)
 }
 
 /// The load or key of a record, by its own call.
-fn own_call(bank: &mut [u8], written: &mut [u8], record: &Record, part: &[u8], last: &mut u32) -> Result<u32, Refusal> {
+fn own_call(buffers: &mut Buffers, record: &Record, part: &[u8], last: &mut u32) -> Result<u32, Refusal> {
     let case = record.case().ok_or(Refusal::Kind)?;
     if case.call == Call::Key {
-        return slices::key(bank, &case.tile, case.lane, &mut [0; 4096]);
+        return slices::key(&buffers.bank, &case.tile, case.lane, &mut [0; 4096]);
     }
-    archive_load(bank, written, part, &case, last).map(|loaded| loaded.count)
+    archive_load(buffers, part, &case, last).map(|loaded| loaded.count)
+}
+
+/// A record, by the call that does one of any kind.
+fn replay_call(buffers: &mut Buffers, record: &[u8], end: u64, part: &[u8], last: &mut u32) -> Result<u32, Refusal> {
+    let Buffers { bank, written, reasons } = buffers;
+    slices::replay_record(bank, written, reasons, record, end, part, last)
 }
 
 fn by_program(run: &Run, file: &File, program: &Program) -> Result<Amount, String> {
@@ -128,7 +135,6 @@ fn by_program(run: &Run, file: &File, program: &Program) -> Result<Amount, Strin
 /// The original's memory, which is carried from record to record, and which load stored last at each of its addresses.
 struct Original<'a> {
     memory: Memory,
-    marks: Map,
     written: Written,
     last: u32,
     file: &'a File,
@@ -136,7 +142,18 @@ struct Original<'a> {
 
 impl<'a> Original<'a> {
     fn new(file: &'a File, last: u32) -> Self {
-        Self { memory: Memory::fresh(), marks: [0; 512], written: numbers::FRESH, last, file }
+        Self { memory: Memory::fresh(), written: numbers::FRESH, last, file }
+    }
+
+    fn buffers(&self) -> Buffers {
+        Buffers { bank: *self.memory.bytes(), written: self.written, reasons: self.memory.reasons() }
+    }
+
+    /// An error says where the archive's buffers, or the last number, are not these.
+    fn same(&self, buffers: &Buffers, last: u32) -> Result<(), String> {
+        same_number(self.last, last)?;
+        Buffers::same(&self.buffers(), buffers)?;
+        same("the written addresses", &self.memory.written(), &numbers::marks(&buffers.written))
     }
 
     /// Does a record, and gives back what is due for it.
@@ -149,18 +166,17 @@ impl<'a> Original<'a> {
             let key = calls::key(&self.memory.bytes(), &descriptor(&tile), tile.mode as u8, record.lane() as usize);
             return key.map(|(_, kept)| kept).ok_or(Refusal::Pair);
         };
-        let number = numbers::after(self.last).ok_or(Refusal::Number)?;
+        let number = number(record.reason, self.last)?;
         let source = self.file.part(record.offset(), record.length());
         let image_siz = record.image_siz() as u8;
-        let counted = self.memory.load_counted(&source, &descriptor(&tile), image_siz, load);
-        self.marks = numbers::either(&self.marks, &counted.marks);
+        let counted = self.memory.load_counted(&source, &descriptor(&tile), image_siz, load, record.reason);
         numbers::store(&mut self.written, &counted.marks, number);
         self.last = number;
         Ok(counted.stores)
     }
 }
 
-/// The refusal that documents 01 and 02 ask for. Of refusal 5 the original is asked, and 18 comes after these.
+/// The refusal that documents 01 and 02 ask for. Of refusal 5 the original is asked, and 19 and 18 come after these.
 fn refusal(record: &Record, end: u64) -> Option<Refusal> {
     let Tile { fmt, siz, palette, mode, cms, cmt, masks, maskt, line, tmem_addr, width, height } = record.tile();
     let load_fields = fmt > 7 || siz > 3 || line > 511 || tmem_addr > 511;

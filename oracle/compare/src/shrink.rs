@@ -31,6 +31,9 @@ fn smaller_cases(case: &Case) -> Vec<Case> {
     if case.surplus != 0 {
         cases.push(Case { surplus: 0, ..*case });
     }
+    if case.reason.is_some() {
+        cases.push(Case { reason: None, ..*case });
+    }
     let count = case.clone().numbers_mut().len();
     for i in 0..count {
         for smaller in smaller_numbers((*case.clone().numbers_mut()[i]).into()) {
@@ -68,6 +71,13 @@ fn smaller_runs(run: &Run) -> impl Iterator<Item = Run> + '_ {
 fn smaller_records(run: &Run, i: usize) -> impl Iterator<Item = Run> + '_ {
     let record = run.records[i];
     let exact = (record.surplus != 0).then_some(Record { surplus: 0, ..record });
+    let smaller_reasons = record.reason.into_iter().flat_map(|reason| smaller_numbers(reason.into()));
+    let reasons = record.reason.map(|_| None).into_iter().chain(smaller_reasons.map(|reason| Some(reason as u32)));
+    let reasons = reasons.map(move |reason| {
+        let mut record = record;
+        record.reason = reason;
+        record
+    });
     let bytes = (0..RECORD_BYTES).flat_map(move |place| {
         smaller_numbers(record.bytes[place].into()).map(move |smaller| {
             let mut record = record;
@@ -75,7 +85,7 @@ fn smaller_records(run: &Run, i: usize) -> impl Iterator<Item = Run> + '_ {
             record
         })
     });
-    exact.into_iter().chain(bytes).map(move |record| {
+    exact.into_iter().chain(reasons).chain(bytes).map(move |record| {
         let mut run = run.clone();
         run.records[i] = record;
         run

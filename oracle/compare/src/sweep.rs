@@ -1,5 +1,5 @@
 //! Cases by structure: every pair, mode and lane with the limits of the sizes, tiles that repeat, the limits of every load, small loads
-//! from sources of every length, and with every kind of last number.
+//! from sources of every length, with every kind of last number and of reason, and reasons about what a tile reaches.
 //! Runs of records: the limits of every number, several faults at a time, keys of tiles that repeat, sources at the companion's end, and
 //! loads over each other's bytes until no number is left.
 use crate::capture::place::*;
@@ -77,6 +77,23 @@ const FAR_LOADS: [(Call, [u32; 3]); 2] = [(Call::LoadTile, [2, 2, 65525]), (Call
 /// Numbers of the load before.
 const LASTS: [u32; 13] = [0, 1, 254, 255, 256, 257, 65278, 65279, 65533, 65534, 65535, 65536, u32::MAX];
 
+/// Reasons of a rejected load, with numbers of the load before it. Both are refused in some.
+const REASONS: [(u32, u32); 8] =
+    [(0, 0), (1, 0), (254, 9), (255, 65534), (256, 0), (0, 65535), (255, 65535), (u32::MAX, u32::MAX)];
+
+/// Width, height, line, word address and masks of tiles that are asked for reasons: of parts of words, of whole ones, past the end of
+/// the bank and of its halves; the last calls for a lookup.
+const REASONED: [[u32; 5]; 8] = [
+    [1, 1, 0, 0, 0],
+    [2, 2, 1, 100, 0],
+    [9, 3, 2, 100, 0],
+    [3, 3, 1, 511, 0],
+    [16, 4, 8, 254, 0],
+    [33, 5, 5, 60, 0],
+    [5, 258, 3, 300, 0],
+    [5, 2, 1, 7, 15],
+];
+
 pub const PICTURES: [Call; 4] = [
     Call::Picture { which: Picture::Plain, observed: false },
     Call::Picture { which: Picture::Plain, observed: true },
@@ -93,7 +110,10 @@ pub fn cases() -> Vec<Case> {
     loads(&mut cases);
     cut_sources(&mut cases);
     last_numbers(&mut cases);
+    rejected_loads(&mut cases);
     loads_in_reach(&mut cases);
+    reasons_in_reach(&mut cases);
+    reasons_in_palettes(&mut cases);
     banks(&mut cases);
     cases
 }
@@ -271,6 +291,70 @@ fn loads_in_reach(cases: &mut Vec<Case>) {
     }
 }
 
+/// Small loads in all pairs and image sizes, with reasons at their limits and past them.
+fn rejected_loads(cases: &mut Vec<Case>) {
+    for pair in 0..32 {
+        for image_siz in 0..4 {
+            let tile = Tile { fmt: pair / 4, siz: pair % 4, line: 2, tmem_addr: 250, ..Tile::default() };
+            for (call, numbers) in SMALL_LOADS {
+                let case = Case { image_siz, numbers, source_length: 20, ..Case::new(call, tile) };
+                cases.extend(REASONS.map(|(reason, last)| Case { reason: Some(reason), last, ..case }));
+            }
+        }
+    }
+}
+
+/// In place of an address that has a reason.
+const NONE: u32 = 4096;
+
+/// No reason, one, or two at the ends of what a tile touches, in every pair and mode.
+fn reasons_in_reach(cases: &mut Vec<Case>) {
+    for pair in 0..32 {
+        for mode in 0..4 {
+            for [width, height, line, tmem_addr, masks] in REASONED {
+                let (fmt, siz, palette) = (pair / 4, pair % 4, pair % 16);
+                let tile = Tile { fmt, siz, palette, mode, masks, line, tmem_addr, width, height, ..Tile::default() };
+                cases.push(question(tile, [NONE; 3]));
+                let places = ends(&tile);
+                for (i, &one) in places.iter().enumerate() {
+                    cases.push(question(tile, [one, NONE, NONE]));
+                    // The larger reason stands at the one or at the other.
+                    cases.extend(places[..i].iter().enumerate().map(|(j, &other)| match (i + j) % 2 {
+                        0 => question(tile, [one, other, NONE]),
+                        _ => question(tile, [other, one, NONE]),
+                    }));
+                }
+            }
+        }
+    }
+}
+
+/// Addresses at the ends of a tile's words, rows and halves, and of its palette.
+fn ends(tile: &Tile) -> Vec<u32> {
+    let (start, row, row_bytes) = (8 * tile.tmem_addr, 8 * tile.line, (tile.width << tile.siz.min(2)).div_ceil(2));
+    let (second, own) = (start + row, 2048 + 128 * tile.palette);
+    let reached = [0, 1, 3, 4, row_bytes - 1, row_bytes, row, 2 * row, 2048].map(|ahead| start + ahead);
+    let others = [second + 3, second + 4, second + row_bytes - 1, 0, 2048, own, own + 127, 4095];
+    reached.into_iter().chain(others).map(|address| address % 4096).collect()
+}
+
+/// The question of a tile, with reasons at some addresses alone.
+fn question(tile: Tile, numbers: [u32; 3]) -> Case {
+    Case { fill: Fill::Zero, numbers, ..Case::new(Call::Rejection, tile) }
+}
+
+/// One reason at each end of every palette and beside it, in every size and mode.
+fn reasons_in_palettes(cases: &mut Vec<Case>) {
+    for palette in 0..16 {
+        let own = 2048 + 128 * palette;
+        for (siz, mode) in (0..16).map(|both| (both / 4, both % 4)) {
+            let tile = Tile { fmt: 2, siz, palette, mode, width: 3, height: 2, line: 1, ..Tile::default() };
+            let places = [own - 1, own, own + 63, own + 64, own + 127, own + 128];
+            cases.extend(places.map(|place| question(tile, [place, NONE, NONE])));
+        }
+    }
+}
+
 /// The lane check on banks of each kind.
 fn banks(cases: &mut Vec<Case>) {
     for fill in [Fill::Zero, Fill::Rising, Fill::Random, Fill::Palette] {
@@ -337,6 +421,9 @@ pub fn runs(by: By) -> Vec<Run> {
     if by == By::Program {
         runs.push(run(in_turns(65535 + 20), 1000, 1));
     } else {
+        if by == By::OwnCalls {
+            runs.push(run(rejected_in_turns(120), 1000, 0));
+        }
         runs.extend(LASTS.map(|last| Run { last, ..run(in_turns(30), 1000, 1) }));
         for kind in [BLOCK, TILE, TLUT, KEY] {
             runs.extend([65534, 65535, u32::MAX].map(|last| Run { last, ..run(faults(kind), 1000, 24) }));
@@ -365,9 +452,15 @@ fn in_turns(loads: u32) -> Vec<Record> {
     (0..loads).flat_map(turn).collect()
 }
 
+/// The same, of which most are rejected, and some for reasons that are refused.
+fn rejected_in_turns(loads: u32) -> Vec<Record> {
+    let reasons = [None, Some(1), Some(200), Some(0), Some(255), None, Some(256)].into_iter().cycle();
+    in_turns(loads).into_iter().zip(reasons).map(|(record, reason)| Record { reason, ..record }).collect()
+}
+
 /// A record whose numbers suit every kind.
 fn plain(kind: u32, numbers: &[(usize, u32)]) -> Record {
-    let mut record = Record { bytes: [0; RECORD_BYTES], surplus: 0 };
+    let mut record = Record { bytes: [0; RECORD_BYTES], surplus: 0, reason: None };
     record.set(&[(KIND, kind), (LANE, 1), (FMT, 2), (SIZ, 1), (MODE, 2), (LINE, 1), (WIDTH, 9), (HEIGHT, 3)]);
     record.set(&[(IMAGE_SIZ, 2), (DXT, 1024), (WORDS, 3), (ROWS, 2), (COUNT, 5), (STRIDE, 11), (OFFSET, 6), (LENGTH, 40)]);
     record.set(numbers);

@@ -1,9 +1,10 @@
 //! The original's calls that are compared, each by its own function, on plain numbers and bytes.
+use crate::diag::DiagKind;
 use crate::hle::framebuffer_load::{FramebufferCopy, Tag, Tags};
 use crate::hle::tile_sampling::TileSampling;
 use crate::hle::tmem::{BankDecoder, Tmem};
 use crate::profiling;
-use crate::TileDescriptor;
+use crate::{Diagnostic, TileDescriptor};
 use std::sync::Arc;
 
 /// The bytes of a bank.
@@ -55,24 +56,47 @@ impl Memory {
         self.tmem.load(source, tile, image_siz, load);
     }
 
-    /// A load, and what it did.
-    pub fn load_counted(&mut self, source: &[u8], tile: &TileDescriptor, image_siz: u8, load: Load) -> Counted {
+    /// A load, and what it did. With a reason it is a rejected one.
+    pub fn load_counted(
+        &mut self,
+        source: &[u8],
+        tile: &TileDescriptor,
+        image_siz: u8,
+        load: Load,
+        reason: Option<u32>,
+    ) -> Counted {
         let copy = Arc::new(FramebufferCopy::of_source(source.len()));
         self.tmem.framebuffer_tags = None;
-        self.tmem.copy_load(copy.clone(), |tmem| tmem.load(source, tile, image_siz, load));
+        let write = |tmem: &mut Tmem| tmem.load(source, tile, image_siz, load);
+        self.tmem.copy_load(copy.clone(), |tmem| match reason {
+            None => write(tmem),
+            Some(reason) => tmem.reject_load(diagnostic(reason), write),
+        });
         let tags = self.tmem.framebuffer_tags.take().unwrap_or_default();
         Counted { stores: copy.stores.get(), made_up: copy.made_up.get(), marks: tagged(&tags) }
     }
 
-    /// The map of written addresses, which is the memory's own and is read from how it prints itself.
+    /// The map of written addresses.
     pub fn written(&self) -> Map {
-        let text = format!("{:?}", self.tmem);
-        let words = text
-            .split_once("written: [")
-            .and_then(|(_, rest)| rest.split_once(']'))
-            .map(|(words, _)| words.split(", "))
-            .expect("the memory prints its written map");
-        map_of(&words.map(|word| word.parse().expect("a number")).collect::<Vec<_>>())
+        map_of(self.tmem.written_words())
+    }
+
+    /// The reason at each address, 0 for none.
+    pub fn reasons(&self) -> Bytes {
+        let rejected = self.tmem.rejected();
+        std::array::from_fn(|address| rejected[address].map_or(0, |diagnostic| reason(diagnostic) as u8))
+    }
+
+    /// Sets the reason at each address.
+    pub fn set_reasons(&mut self, reasons: &Bytes) {
+        for (rejected, &reason) in self.tmem.rejected_mut().iter_mut().zip(reasons) {
+            *rejected = (reason != 0).then(|| diagnostic(reason.into()));
+        }
+    }
+
+    /// The reason at the first address that the tile reaches, or that its palette has, and that has one.
+    pub fn rejection(&self, tile: &TileDescriptor, mode: u8) -> Option<u32> {
+        self.tmem.rejection(tile, mode).map(reason)
     }
 
     /// Whether the tile reaches a written address.
@@ -89,6 +113,16 @@ impl Tmem {
             Load::Tlut { count, rows, stride } => self.write_tlut_for_tile(source, tile, count, rows, stride, image_siz),
         }
     }
+}
+
+/// The diagnostic that stands for a reason: the reason is its address, which no call looks at.
+fn diagnostic(reason: u32) -> Diagnostic {
+    Diagnostic { at: reason.into(), kind: DiagKind::UndefinedMvp }
+}
+
+/// The reason that a diagnostic stands for.
+fn reason(diagnostic: Diagnostic) -> u32 {
+    diagnostic.at as u32
 }
 
 /// The original's reach: it walks it to find which tagged bytes a tile sees. Here every byte is tagged.

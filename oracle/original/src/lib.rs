@@ -1,6 +1,7 @@
 //! The Rust that this library comes from, compiled as it stands and as its profiling build, and its calls on plain numbers.
 //!
-//! Five files are the original's own, by their paths: diag, rdp, texdec, tile_sampling and tmem. Everything else that they
+//! Five files are the original's own, by their paths: diag, rdp, texdec, tile_sampling and tmem, which has behind_tmem.rs behind
+//! its text. Everything else that they
 //! name is a stand-in of this crate, no larger than they ask. [`calls`] is what a comparison uses.
 #![allow(dead_code)]
 

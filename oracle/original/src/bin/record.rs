@@ -116,7 +116,7 @@ impl Input {
         };
         let source = made(self.seed, 2, self.source_length as usize);
         let mut memory = Memory::new(&self.bank());
-        let counted = memory.load_counted(&source, &self.tile, self.image_siz, load);
+        let counted = memory.load_counted(&source, &self.tile, self.image_siz, load, None);
         let mut written = self.written();
         written.iter_mut().zip(counted.marks).for_each(|(byte, mark)| *byte |= mark);
         let digests = [digest(&memory.bytes()[..]), digest(&written)];
