@@ -82,8 +82,9 @@ fn load_refusal(
     if no != 0 {
         return no;
     }
-    let spent = refuse(refusal::SPENT, is_spent(last), 0);
-    refuse(refusal::REASON, reason.outside(), spent)
+    let spent = is_spent(last);
+    let outside = reason.outside();
+    refuse(refusal::REASON, outside, refuse(refusal::SPENT, spent, 0))
 }
 
 // The answer of a load that is refused: nothing is counted, and the number passed is handed back.

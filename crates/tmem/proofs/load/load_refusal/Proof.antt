@@ -49,11 +49,11 @@ returns-2 c =
 is-spent-requires : tie.Need-is-spent-requires
 is-spent-requires c κs = search needs
 
-refuse-requires : tie.Need-refuse-requires
-refuse-requires c κs = search needs
-
 outside-requires : tie.Need-outside-requires
 outside-requires c κs = search needs
+
+refuse-requires : tie.Need-refuse-requires
+refuse-requires c κs = search needs
 
 refuse-requires-2 : tie.Need-refuse-requires-2
 refuse-requires-2 c κs = search needs
@@ -69,8 +69,8 @@ returns-3 c =
       lent-passed e,
       passed,
       c .refuse2 .ensures,
-      c .before .before .refuse .ensures,
-      c .before .outside .ensures,
+      c .before .refuse .ensures,
+      c .before .before .outside .ensures,
       c .before .before .before .is-spent .ensures,
     )
 
@@ -83,7 +83,7 @@ load-refusal-spec =
     number-refusal-requires
     returns-2
     is-spent-requires
-    refuse-requires
     outside-requires
+    refuse-requires
     refuse-requires-2
     returns-3)
