@@ -23,12 +23,12 @@ pub extern "C" fn tk_load_block(
     tmem_addr: u32,
     image_siz: u32,
     dxt: u32,
-    words: u32,
+    word_count: u32,
     last: u32,
 ) -> LoadAnswer
     ensures { λ r. ⌜ loadAnswered r (now (bank .exit) ∷ now (written .exit) ∷ now (reasons .exit) ∷ [])
         ≡ blockCall (now (bank .entry)) (now (written .entry)) (now (reasons .entry)) (now (source .entry))
-        (loadTileFrom fmt siz line «tmem_addr») «image_siz» dxt words ordinary last ⌝ }
+        (loadTileFrom fmt siz line «tmem_addr») «image_siz» dxt «word_count» ordinary last ⌝ }
 {
     let tile = load_tile_from(fmt, siz, line, tmem_addr);
     tmem::load::write_block_for_tile(
@@ -39,7 +39,7 @@ pub extern "C" fn tk_load_block(
         tile,
         image_siz,
         dxt,
-        words,
+        word_count,
         Reason::Ordinary,
         last,
     )
@@ -57,14 +57,14 @@ pub extern "C" fn tk_load_tile(
     line: u32,
     tmem_addr: u32,
     image_siz: u32,
-    rows: u32,
-    words: u32,
+    row_count: u32,
+    words_per_row: u32,
     stride: u32,
     last: u32,
 ) -> LoadAnswer
     ensures { λ r. ⌜ loadAnswered r (now (bank .exit) ∷ now (written .exit) ∷ now (reasons .exit) ∷ [])
         ≡ tileCall (now (bank .entry)) (now (written .entry)) (now (reasons .entry)) (now (source .entry))
-        (loadTileFrom fmt siz line «tmem_addr») «image_siz» rows words stride ordinary last ⌝ }
+        (loadTileFrom fmt siz line «tmem_addr») «image_siz» «row_count» «words_per_row» stride ordinary last ⌝ }
 {
     let tile = load_tile_from(fmt, siz, line, tmem_addr);
     tmem::load::write_tile_for_tile(
@@ -74,8 +74,8 @@ pub extern "C" fn tk_load_tile(
         source,
         tile,
         image_siz,
-        rows,
-        words,
+        row_count,
+        words_per_row,
         stride,
         Reason::Ordinary,
         last,

@@ -22,13 +22,13 @@ pub extern "C" fn tk_reject_block(
     tmem_addr: u32,
     image_siz: u32,
     dxt: u32,
-    words: u32,
+    word_count: u32,
     reason: u32,
     last: u32,
 ) -> LoadAnswer
     ensures { λ r. ⌜ loadAnswered r (now (bank .exit) ∷ now (written .exit) ∷ now (reasons .exit) ∷ [])
         ≡ blockCall (now (bank .entry)) (now (written .entry)) (now (reasons .entry)) (now (source .entry))
-        (loadTileFrom fmt siz line «tmem_addr») «image_siz» dxt words (rejected reason) last ⌝ }
+        (loadTileFrom fmt siz line «tmem_addr») «image_siz» dxt «word_count» (rejected reason) last ⌝ }
 {
     let tile = load_tile_from(fmt, siz, line, tmem_addr);
     tmem::load::write_block_for_tile(
@@ -39,7 +39,7 @@ pub extern "C" fn tk_reject_block(
         tile,
         image_siz,
         dxt,
-        words,
+        word_count,
         Reason::Rejected(reason),
         last,
     )
@@ -57,15 +57,15 @@ pub extern "C" fn tk_reject_tile(
     line: u32,
     tmem_addr: u32,
     image_siz: u32,
-    rows: u32,
-    words: u32,
+    row_count: u32,
+    words_per_row: u32,
     stride: u32,
     reason: u32,
     last: u32,
 ) -> LoadAnswer
     ensures { λ r. ⌜ loadAnswered r (now (bank .exit) ∷ now (written .exit) ∷ now (reasons .exit) ∷ [])
         ≡ tileCall (now (bank .entry)) (now (written .entry)) (now (reasons .entry)) (now (source .entry))
-        (loadTileFrom fmt siz line «tmem_addr») «image_siz» rows words stride (rejected reason) last ⌝ }
+        (loadTileFrom fmt siz line «tmem_addr») «image_siz» «row_count» «words_per_row» stride (rejected reason) last ⌝ }
 {
     let tile = load_tile_from(fmt, siz, line, tmem_addr);
     tmem::load::write_tile_for_tile(
@@ -75,8 +75,8 @@ pub extern "C" fn tk_reject_tile(
         source,
         tile,
         image_siz,
-        rows,
-        words,
+        row_count,
+        words_per_row,
         stride,
         Reason::Rejected(reason),
         last,
