@@ -134,7 +134,9 @@ zero-byte m from k e h =
 
 -- where two numbers are zero in one, both are
 pub or-zero : (x y : ℕ) → bitOr x y ≡ 0 → (x ≡ 0) × (y ≡ 0)
-or-zero x y e = (omega (arith, e, or-add-and x y, and-le-l x y, and-le-r x y), omega (arith, e, or-add-and x y, and-le-l x y, and-le-r x y))
+or-zero x y e =
+    let none : x + y ≡ 0 = omega (arith, e, or-add-and x y, and-le-l x y, and-le-r x y) in
+    (omega arith, omega arith)
 
 -- where v has nothing in common with some numbers in one, it has nothing in common with each
 apart-each : (v n : ℕ) (f : ℕ → ℕ) → bitAnd v (ors n f) ≡ 0 → (k : ℕ) → k < n → bitAnd v (f k) ≡ 0
@@ -159,7 +161,8 @@ zero-lane m from n g e k h l small =
     let lane : bitAnd (255 * 2 ^ up) (eightBytes m from) ≡ 0 =
     and-comm (255 * 2 ^ up) (eightBytes m from)
     ∙ apart-each (eightBytes m from) n (λ k. 255 * 2 ^ (8 * g k)) (and-comm (eightBytes m from) _ ∙ e) k h in
-    let here : bitAnd (255 * 2 ^ up) (b * 2 ^ up) ≡ 0 = apart-each (255 * 2 ^ up) 8 (λ j. getD m (from + j) 0 * 2 ^ (8 * j)) lane (g k) l in
+    let here : bitAnd (255 * 2 ^ up) (b * 2 ^ up) ≡ 0 =
+    apart-each (255 * 2 ^ up) 8 (λ j. getD m (from + j) 0 * 2 ^ (8 * j)) lane (g k) l in
     let byte : bitAnd 255 b ≡ 0 =
     ap₂ bitAnd (sym (shl-shr 255 up)) (sym (shl-shr b up)) ∙ sym (and-shr (255 * 2 ^ up) (b * 2 ^ up) up) ∙ rw here (zero-div (2 ^ up)) in
     sym (mod-eq-of-lt small) ∙ sym (and-mask b 8) ∙ and-comm b 255 ∙ byte

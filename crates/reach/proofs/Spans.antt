@@ -21,7 +21,7 @@ use Rattle.rdp.specs.declared.units.WordAddr.{WordAddr}
 use Rattle.reach.specs.Words.{ors, lowWords, twin, wordJoined, wordMeets}
 use Rattle.reach.proofs.Words.{word-marks, word-any}
 use Rattle.reach.specs.declared.span.Span.{Span}
-use Rattle.reach.specs.Span.{Bounds, wordsOf, bytesOf, stepOf, placesIn, reachedAt, reached, inHalves, halvesOfEight}
+use Rattle.reach.specs.Span.{Bounds, wordsOf, bytesOf, stepOf, placesIn, reachedAt, reached, inHalves}
 use Rattle.reach.specs.Span.{wordCount, wordIn, placesOf, byteOf, bitsIn, placeReached, wordReached}
 use Rattle.reach.proofs.Axes.{row-bytes-le}
 
@@ -142,7 +142,7 @@ module _ (s : Span) where
 
 -- the bits of the first n bytes of a word as they are made, and as the places have them
 abbrev made : Bool → Bool → ℕ → ℕ
-made sparse odd n = cond sparse (bitAnd (inHalves odd (2 ^ n - 1)) 85) (inHalves odd (2 ^ n - 1))
+made sparse odd n = cond sparse (bitAnd (inHalves 4 odd (2 ^ n - 1)) 85) (inHalves 4 odd (2 ^ n - 1))
 
 abbrev placed : Bool → Bool → ℕ → ℕ
 placed sparse odd n = ors (placesIn sparse n) (λ j. 2 ^ swapOdd odd (stepOf sparse * j))
@@ -158,7 +158,7 @@ bits-placed false false n h = agree-below 9 (made false false) (placed false fal
 -- and so for all bits of those bytes
 abbrev madeLanes : Bool → Bool → ℕ → ℕ
 madeLanes sparse odd n =
-    cond sparse (bitAnd (halvesOfEight odd (2 ^ (8 * n) - 1)) 71777214294589695) (halvesOfEight odd (2 ^ (8 * n) - 1))
+    cond sparse (bitAnd (inHalves 32 odd (2 ^ (8 * n) - 1)) 71777214294589695) (inHalves 32 odd (2 ^ (8 * n) - 1))
 
 abbrev placedLanes : Bool → Bool → ℕ → ℕ
 placedLanes sparse odd n = ors (placesIn sparse n) (λ j. 255 * 2 ^ (8 * swapOdd odd (stepOf sparse * j)))

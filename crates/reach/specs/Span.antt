@@ -60,12 +60,9 @@ placeReached s w k = twin (s .twice) (8 * wordIn s w + byteOf s k)
 unfoldable pub wordReached : Span → ℕ → List ℕ
 wordReached s w = concat (tab (placesOf s w) (placeReached s w))
 
--- the bits of a word whose halves change places on odd rows
-abbrev pub inHalves : Bool → ℕ → ℕ
-inHalves odd bits = cond odd (bitOr (bits * 2 ^ 4 % 2 ^ 8) (bits / 2 ^ 4)) bits
-
-abbrev pub halvesOfEight : Bool → ℕ → ℕ
-halvesOfEight odd bytes = cond odd (bitOr (bytes * 2 ^ 32 % 2 ^ 64) (bytes / 2 ^ 32)) bytes
+-- a number whose halves of h bits change places on odd rows
+abbrev pub inHalves : ℕ → Bool → ℕ → ℕ
+inHalves h odd n = cond odd (bitOr (n * 2 ^ h % 2 ^ (2 * h)) (n / 2 ^ h)) n
 
 -- a span has the bank's bytes at most, and addresses that stand for others are in the lower half
 pub record Bounds (s : Span) : Type 0 where

@@ -10,7 +10,7 @@ use crate::span::Span;
 use crate::word;
 use tmem::bank::Bank;
 
-// No place of the word has one, nor an address that a place stands for. All bytes are tested at once.
+// No place of word w has one, nor an address that a place stands for. All bytes are tested at once.
 fn is_clear(reasons: &[u8], span: Span, w: usize) -> bool
     requires { ⌜ length (now reasons) ≡ reasonsSize ⌝ }
     requires { ⌜ Bounds span × (8 * w < span .bytes) ⌝ }
@@ -45,7 +45,7 @@ fn place_reason(reasons: &[u8], span: Span, w: usize, k: usize) -> u8
     reasons[at]
 }
 
-// Place by place.
+// The first reason of the word's places.
 fn each_place(reasons: &[u8], span: Span, w: usize) -> u8
     requires { ⌜ length (now reasons) ≡ reasonsSize ⌝ }
     requires { ⌜ Bounds span × (8 * w < span .bytes) ⌝ }
@@ -61,8 +61,8 @@ fn each_place(reasons: &[u8], span: Span, w: usize) -> u8
     0
 }
 
-// Most words have none, which their bytes say at once; the others are left to a function of their own, so that this one is small enough
-// to be compiled into the loop that calls it.
+// The first reason of word w, 0 for none. Most words have none, which their bytes say at once; the others are gone through place by
+// place.
 pub(crate) fn word_reason(reasons: &[u8], span: Span, w: usize) -> u8
     requires { ⌜ length (now reasons) ≡ reasonsSize ⌝ }
     requires { ⌜ Bounds span × (8 * w < span .bytes) ⌝ }

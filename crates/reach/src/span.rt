@@ -9,7 +9,8 @@ ghost use Rattle.rules.specs.Sampling.{isRgba32};
 ghost use Rattle.rules.specs.Tile.{bankSize, bankWords, paletteBase, InRange};
 ghost use Rattle.rdp.specs.View.{tileOf};
 ghost use Rattle.reach.specs.Words.{lowWords};
-ghost use Rattle.reach.specs.Span.{Bounds, wordsOf, reached, wordCount, wordIn, placesOf, byteOf, bitsIn, inHalves, lanesIn, halvesOfEight};
+ghost use Rattle.reach.specs.Span.{Bounds, wordsOf, reached, wordCount, wordIn, placesOf, byteOf};
+ghost use Rattle.reach.specs.Span.{bitsIn, inHalves, lanesIn};
 use crate::extent;
 use rdp::tile::TileDescriptor;
 use rdp::units;
@@ -76,14 +77,14 @@ fn first_bytes(count: usize) -> u64
 
 // On odd rows the halves of a word change places.
 fn in_halves(odd: bool, bits: u8) -> u8
-    ensures { λ r. ⌜ r ≡ inHalves odd bits ⌝ }
+    ensures { λ r. ⌜ r ≡ inHalves 4 odd bits ⌝ }
 {
     if odd { bits << 4 | bits >> 4 } else { bits }
 }
 
 // The same for the eight bytes of a word.
 fn halves_of_eight(odd: bool, bytes: u64) -> u64
-    ensures { λ r. ⌜ r ≡ halvesOfEight odd bytes ⌝ }
+    ensures { λ r. ⌜ r ≡ inHalves 32 odd bytes ⌝ }
 {
     if odd {
         bytes << 32 | bytes >> 32

@@ -57,7 +57,8 @@ loop-less c = search needs
 
 loop-again : tie.Need-loop-again Inv-loop μ-loop
 loop-again c =
-    (search needs, none-more (any-search _) _ _ (c .before .before .before .before .loop .inv .1) (sym (found-in (c .before)) ∙ c .if1 .left))
+    let l = c .before .before .before .before .loop in
+    (search needs, none-more (any-search _) _ _ (l .inv .1) (sym (found-in (c .before)) ∙ c .if1 .left))
 
 returns-2 : tie.Need-returns-2 Inv-loop μ-loop
 unfolding reachPlain

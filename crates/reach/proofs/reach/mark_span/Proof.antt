@@ -1,6 +1,6 @@
 -- `reach::reach::mark_span` marks word after word. The loop's invariant: the map has the marks of the span's words before
 -- word w. Assumes nothing.
-use mathlib.Core.Path.{_≡_, sym, _∙_}
+use mathlib.Core.Path.{_≡_, sym}
 use Prim.Native.Nat.{_-_, _≤_}
 use native.Mathlib.Omega.{arith}
 use lib.ListN.{length}

@@ -42,7 +42,8 @@ returns c h =
     let a = k .before .args in
     let at = e .before .word .ensures .0 in
     let l = lanesIn (a .span) (a .w) in
-    let z = or-zero (bitAnd l (e .eight-bytes .result)) (bitAnd l (f .eight-bytes2 .result)) (sym (and-or l _ _) ∙ c .is-zero .ensures h) in
+    let z =
+    or-zero (bitAnd l (e .eight-bytes .result)) (bitAnd l (f .eight-bytes2 .result)) (sym (and-or l _ _) ∙ c .is-zero .ensures h) in
     clear-word _ (a .span) (a .w) (small k)
     (rw (← at, ← e .eight-bytes .ensures) (z .0))
     (λ t. rw (← at, ← f .eight-bytes2 .ensures) (z .1))

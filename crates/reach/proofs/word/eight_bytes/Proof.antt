@@ -1,5 +1,5 @@
 -- `reach::word::eight_bytes` adds byte after byte. The loop's invariant: `all` is the bytes below k as one number. Assumes nothing.
-use mathlib.Core.Path.{_≡_, _∙_}
+use mathlib.Core.Path.{_≡_}
 use Prim.Native.Nat.{_+_, _-_, _*_, _^_, _%_, _≤_}
 use native.Mathlib.Numerals.{add-one}
 use native.Mathlib.Omega.{arith}

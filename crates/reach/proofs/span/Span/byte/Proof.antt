@@ -13,7 +13,9 @@ swap-odd-line-requires : tie.Need-swap-odd-line-requires
 swap-odd-line-requires c κs = search needs
 
 returns : tie.Need-returns
-returns c = ⊎-elim (λ w. c .swap-odd-line .ensures ∙ rw (w .0 .taken, w .1)) (λ w. c .swap-odd-line .ensures ∙ rw (w .0 .left, w .1, one-mul)) (c .before .if1 .came)
+returns c =
+    c .swap-odd-line .ensures
+    ∙ ⊎-elim (λ w. rw (w .0 .taken, w .1)) (λ w. rw (w .0 .left, w .1, one-mul)) (c .before .if1 .came)
 
 pub byte-spec : {M : Type 1} → statement M
 byte-spec = tie.close (tie.spec mul-byte swap-odd-line-requires returns)
