@@ -1,20 +1,20 @@
 -- Laws of one byte of a map: what several bits do at once, or where one of them is.
-use mathlib.Core.Path.{_≡_, refl, ap, sym, _∙_}
+use mathlib.Core.Path.{_≡_, refl, ap, ap₂, sym, _∙_}
 use mathlib.Core.Bool.{Bool, true, false, cond, not, _&&_, _||_, or-false}
 use mathlib.Core.List.{List, [], _∷_}
 use Prim.Native.Nat.{ℕ, zero, suc, _+_, _-_, _*_, _/_, _%_, _^_, _<_, _≤_}
 use native.Mathlib.Omega.{arith}
 use native.Mathlib.Decide.{ℕ-discrete, decLt}
-use native.Mathlib.Nat.{one-mul}
-use lib.Bits.{bitAnd, bitOr, and-step, or-step, or-shr, and-shr, or-zero-r, and-zero-r, and-le-l, and-le-r, and-comm, or-add-and}
+use native.Mathlib.Nat.{one-mul, zero-div, mod-eq-of-lt}
+use lib.Bits.{bitAnd, bitOr, and-step, or-step, or-shr, and-shr, or-zero-r, and-zero-r, and-le-l, and-le-r, and-comm, and-mask, or-add-and}
 use lib.Dec.{eqb, ltb}
 use lib.ListN.{getD}
-use lib.Pow.{shl-exact}
+use lib.Pow.{shl-exact, shl-shr}
 use borrow.Author.Tests.{eq-eqb, ne-eqb, lt-ltb, le-ltb}
 use Rattle.rules.specs.Base.{one, marked, numberAt, isWritten}
 use Rattle.rules.proofs.Bits.{more-bits, ones}
 use Rattle.rules.proofs.Computed.{agree-below}
-use Rattle.reach.specs.Words.{ors, joined, markBit, wordMarks, wordBytes, meets, lowWords, wordMeets}
+use Rattle.reach.specs.Words.{ors, joined, markBit, wordMarks, eightBytes, wordBytes, meets, lowWords, wordMeets}
 use Rattle.reach.proofs.Differ.{differ, are-apart}
 
 -- one bit, shifted inside a width, is a power of two
@@ -31,7 +31,7 @@ and-or-to (suc n) v a b h =
     rw (or-shr a b 1, and-shr v a 1, and-shr v b 1) (and-or-to n (v / 2) (a / 2) (b / 2) (omega arith)) in
     omega (arith, and-step v (bitOr a b), or-step (bitAnd v a) (bitAnd v b), or-step a b, and-step v a, and-step v b)
 
-and-or : (v a b : ℕ) → bitAnd v (bitOr a b) ≡ bitOr (bitAnd v a) (bitAnd v b)
+pub and-or : (v a b : ℕ) → bitAnd v (bitOr a b) ≡ bitOr (bitAnd v a) (bitAnd v b)
 and-or v a b = and-or-to (v + a + b) v a b (omega arith)
 
 or-some : (x y : ℕ) → differ (bitOr x y) 0 ≡ (differ x 0 || differ y 0)
@@ -126,13 +126,60 @@ unfolding ors
 zero-ors zero f e = refl
 zero-ors (suc n) f e = rw (zero-ors n f (λ k h. e k (omega arith)), e n (omega arith))
 
+-- one of eight bytes that are zero in one
+zero-byte : (m : List ℕ) (from k : ℕ) → eightBytes m from ≡ 0 → k < 8 → getD m (from + k) 0 ≡ 0
+unfolding eightBytes
+zero-byte m from k e h =
+    sym (shl-shr (getD m (from + k) 0) (8 * k)) ∙ rw (ors-zero 8 (λ k. getD m (from + k) 0 * 2 ^ (8 * k)) e k h) (zero-div (2 ^ (8 * k)))
+
+-- where two numbers are zero in one, both are
+pub or-zero : (x y : ℕ) → bitOr x y ≡ 0 → (x ≡ 0) × (y ≡ 0)
+or-zero x y e = (omega (arith, e, or-add-and x y, and-le-l x y, and-le-r x y), omega (arith, e, or-add-and x y, and-le-l x y, and-le-r x y))
+
+-- where v has nothing in common with some numbers in one, it has nothing in common with each
+apart-each : (v n : ℕ) (f : ℕ → ℕ) → bitAnd v (ors n f) ≡ 0 → (k : ℕ) → k < n → bitAnd v (f k) ≡ 0
+unfolding ors
+apart-each v zero f e k h = absurd (omega arith)
+apart-each v (suc n) f e k h = go (ℕ-discrete k n) (λ z l. apart-each v n f z k l)
+  where
+    parts : (bitAnd v (ors n f) ≡ 0) × (bitAnd v (f n) ≡ 0)
+    parts = or-zero (bitAnd v (ors n f)) (bitAnd v (f n)) (sym (and-or v (ors n f) (f n)) ∙ e)
+
+    go : Dec (k ≡ n) → (bitAnd v (ors n f) ≡ 0 → k < n → bitAnd v (f k) ≡ 0) → bitAnd v (f k) ≡ 0
+    go (yes q) ih = rw q (parts .1)
+    go (no q) ih = ih (parts .0) (omega (arith, q))
+
+-- bytes are zero where the number of the eight has nothing in common with all bits of those bytes, byte g k for each k below n
+pub zero-lane : (m : List ℕ) (from n : ℕ) (g : ℕ → ℕ) → bitAnd (ors n (λ k. 255 * 2 ^ (8 * g k))) (eightBytes m from) ≡ 0
+    → (k : ℕ) → k < n → g k < 8 → getD m (from + g k) 0 < 256 → getD m (from + g k) 0 ≡ 0
+unfolding eightBytes
+zero-lane m from n g e k h l small =
+    let b = getD m (from + g k) 0 in
+    let up = 8 * g k in
+    let lane : bitAnd (255 * 2 ^ up) (eightBytes m from) ≡ 0 =
+    and-comm (255 * 2 ^ up) (eightBytes m from)
+    ∙ apart-each (eightBytes m from) n (λ k. 255 * 2 ^ (8 * g k)) (and-comm (eightBytes m from) _ ∙ e) k h in
+    let here : bitAnd (255 * 2 ^ up) (b * 2 ^ up) ≡ 0 = apart-each (255 * 2 ^ up) 8 (λ j. getD m (from + j) 0 * 2 ^ (8 * j)) lane (g k) l in
+    let byte : bitAnd 255 b ≡ 0 =
+    ap₂ bitAnd (sym (shl-shr 255 up)) (sym (shl-shr b up)) ∙ sym (and-shr (255 * 2 ^ up) (b * 2 ^ up) up) ∙ rw here (zero-div (2 ^ up)) in
+    sym (mod-eq-of-lt small) ∙ sym (and-mask b 8) ∙ and-comm b 255 ∙ byte
+
 -- a word whose bytes are zero has no marks
 pub blank-word : (m : List ℕ) (w : ℕ) → wordBytes m w ≡ 0 → 0 ≡ wordMarks m w
 unfolding wordBytes wordMarks isWritten numberAt
 blank-word m w e = sym (zero-ors 8 (markBit m w) none)
   where
-    byte : (k : ℕ) → k < 16 → getD m (16 * w + k) 0 ≡ 0
-    byte = ors-zero 16 (λ k. getD m (16 * w + k) 0) e
+    zeros : (eightBytes m (16 * w) ≡ 0) × (eightBytes m (16 * w + 8) ≡ 0)
+    zeros = or-zero (eightBytes m (16 * w)) (eightBytes m (16 * w + 8)) e
+
+    byte : (j : ℕ) → j < 16 → getD m (16 * w + j) 0 ≡ 0
+    byte j h = go (decLt j 8)
+      where
+        go : Dec (j < 8) → getD m (16 * w + j) 0 ≡ 0
+        go (yes q) = zero-byte m (16 * w) j (zeros .0) q
+        go (no q) =
+            let at : 16 * w + j ≡ (16 * w + 8) + (j - 8) = omega (arith, q) in
+            rw at (zero-byte m (16 * w + 8) (j - 8) (zeros .1) (omega arith))
 
     none : (k : ℕ) → k < 8 → markBit m w k ≡ 0
     none k h =

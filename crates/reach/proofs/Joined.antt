@@ -1,18 +1,15 @@
 -- Laws of lists that a loop joins: each turn marks or searches one list more.
-use mathlib.Core.Path.{_≡_, refl, ap, _∙_}
-use mathlib.Core.Bool.{Bool, true, false, _||_, or-true}
+use mathlib.Core.Path.{_≡_, refl, ap, sym, _∙_}
+use mathlib.Core.Bool.{Bool, true, false, _||_}
 use mathlib.Core.List.{List, [], _∷_, _++_}
-use Prim.Native.Nat.{ℕ, zero, suc, _+_, _<_}
-use native.Mathlib.Decide.{ℕ-discrete}
-use native.Mathlib.Nat.{add-zero}
+use Prim.Native.Nat.{ℕ, zero, suc, _+_, _-_, _<_}
 use native.Mathlib.Numerals.{add-one}
 use native.Mathlib.Omega.{arith}
 use Rattle.rules.specs.Base.{tab, tabFrom, concat, any, marks}
-use Rattle.rules.proofs.Tables.{concat-more}
+use Rattle.rules.specs.Reach.{firstReason}
+use Rattle.rules.proofs.Tables.{tab-cut, concat-append, concat-more}
 use Rattle.rules.proofs.Maps.{marks-append}
-
-pub one-more : (a n : ℕ) → a + suc n ≡ (a + n) + 1
-one-more a n = omega arith
+use Rattle.rules.proofs.Reasons.{or-first, first-reason-append}
 
 pub marks-none : (m : List ℕ) (f : ℕ → List ℕ) → marks m (concat (tab 0 f)) ≡ m
 unfolding marks concat tab tabFrom
@@ -22,6 +19,38 @@ pub marks-more : (m : List ℕ) (f : ℕ → List ℕ) (n : ℕ) (now next : Lis
     → now ≡ marks m (concat (tab n f)) → next ≡ marks now (f n) → next ≡ marks m (concat (tab (n + 1) f))
 marks-more m f n now next p q = rw (concat-more, marks-append, ← p, q)
 
+-- A search F of lists: in two lists it finds what it finds in the first, and where that is nothing, what it finds in the second.
+pub record Search {A R : Type 0} (F : List A → R) (none : R) : Type 0 where
+  pub empty : F [] ≡ none
+  pub next : (l k : List A) → F l ≡ none → F (l ++ k) ≡ F k
+  pub stays : (l k : List A) → (F l ≡ none → ⊥) → F (l ++ k) ≡ F l
+
+module _ {A R : Type 0} {F : List A → R} {none : R} (s : Search F none) (f : ℕ → List A) where
+  -- nothing was found before the first list, nor after one more in which there is nothing, nor in lists that have nothing
+  pub none-yet : F (concat (tab 0 f)) ≡ none
+  unfolding concat tab tabFrom
+  none-yet = s .empty
+
+  pub none-more : (n : ℕ) → F (concat (tab n f)) ≡ none → F (f n) ≡ none → F (concat (tab (n + 1) f)) ≡ none
+  none-more n h e = ap F (concat-more n f) ∙ s .next _ _ h ∙ e
+
+  pub none-all : (n : ℕ) → ((k : ℕ) → k < n → F (f k) ≡ none) → F (concat (tab n f)) ≡ none
+  none-all zero e = none-yet
+  none-all (suc n) e = rw (← add-one n) (none-more n (none-all n (λ k h. e k (omega arith))) (e n (omega arith)))
+
+  -- what is found in list i, where nothing was before it, is what all of them together have
+  pub first-found : (i n : ℕ) → i < n → F (concat (tab i f)) ≡ none → (r : R) → r ≡ F (f i) → (r ≡ none → ⊥) → r ≡ F (concat (tab n f))
+  first-found i n h e r here some =
+      let long : n ≡ (i + 1) + (n - (i + 1)) = omega arith in
+      let last : F (concat (tab (i + 1) f)) ≡ r = ap F (concat-more i f) ∙ s .next _ _ e ∙ sym here in
+      sym
+      (ap (λ k. F (concat (tab k f))) long
+      ∙ ap (λ l. F (concat l)) (tab-cut (i + 1) (n - (i + 1)) f)
+      ∙ ap F (concat-append (tab (i + 1) f) _)
+      ∙ s .stays _ _ (λ z. some (sym last ∙ z))
+      ∙ last)
+
+-- the test that something in a list passes
 module _ {A : Type 0} (p : A → Bool) where
   any-append : (l m : List A) → any p (l ++ m) ≡ (any p l || any p m)
   unfolding any
@@ -32,28 +61,28 @@ module _ {A : Type 0} (p : A → Bool) where
       go true h = refl
       go false h = h
 
-  module _ (f : ℕ → List A) where
-    pub any-more : (n : ℕ) → any p (concat (tab (n + 1) f)) ≡ (any p (concat (tab n f)) || any p (f n))
-    any-more n = ap (any p) (concat-more n f) ∙ any-append (concat (tab n f)) (f n)
+  pub any-more : (f : ℕ → List A) (n : ℕ) → any p (concat (tab (n + 1) f)) ≡ (any p (concat (tab n f)) || any p (f n))
+  any-more f n = ap (any p) (concat-more n f) ∙ any-append (concat (tab n f)) (f n)
 
-    -- nothing was found before the first list, nor after one more in which there is nothing
-    pub none-yet : any p (concat (tab 0 f)) ≡ false
-    unfolding any concat tab tabFrom
-    none-yet = refl
+  pub any-search : Search (any p) false
+  unfolding any
+  any-search =
+      record {
+        empty = refl;
+        next = λ l k h. any-append l k ∙ rw h;
+        stays = λ l k h. any-append l k ∙ go (any p l) (any p k) h;
+      }
+    where
+      go : (a b : Bool) → (a ≡ false → ⊥) → (a || b) ≡ a
+      go true b h = refl
+      go false b h = absurd (h refl)
 
-    pub none-more : (n : ℕ) → any p (concat (tab n f)) ≡ false → any p (f n) ≡ false → any p (concat (tab (n + 1) f)) ≡ false
-    none-more n h e = rw (any-more n, h, e)
-
-    -- what one of the lists has, all of them together have
-    pub found : (i n : ℕ) → i < n → any p (f i) ≡ true → any p (concat (tab n f)) ≡ true
-    found i zero h e = absurd (omega arith)
-    found i (suc n) h e = rw (← add-one n) (any-more n ∙ go (ℕ-discrete i n) (λ l. found i n l e))
-      where
-        go : Dec (i ≡ n) → (i < n → any p (concat (tab n f)) ≡ true) → (any p (concat (tab n f)) || any p (f n)) ≡ true
-        go (yes q) ih = rw (← q, e) (or-true (any p (concat (tab i f))))
-        go (no q) ih = rw (ih (omega (arith, q)))
-
-    -- what a list has, it has with more lists after it
-    pub found-longer : (a n : ℕ) → any p (concat (tab a f)) ≡ true → any p (concat (tab (a + n) f)) ≡ true
-    found-longer a zero h = rw add-zero h
-    found-longer a (suc n) h = rw (one-more, any-more (a + n), found-longer a n h)
+-- the first reason of a list
+pub reason-search : (m : List ℕ) → Search (firstReason m) 0
+unfolding firstReason
+reason-search m =
+    record {
+      empty = refl;
+      next = λ l k h. first-reason-append m l k ∙ rw h;
+      stays = λ l k h. first-reason-append m l k ∙ or-first _ _ h;
+    }

@@ -10,7 +10,8 @@ use lib.ListN.{length, replicate}
 use Rattle.rules.specs.Base.{tab, tabFrom, concat, marks}
 use Rattle.rules.specs.Tile.{laneMapSize}
 use Rattle.rules.specs.Reach.{uneven, unevenSlots, laneMap}
-use Rattle.rules.proofs.Tables.{tab-more, length-tab}
+use Rattle.rules.proofs.Tables.{tab-more, tab-cut, length-tab, concat-append}
+use Rattle.rules.proofs.Maps.{marks-append}
 use Rattle.reach.specs.Words.{joined}
 use Rattle.reach.specs.Slots.{slotBit, slotsByte}
 use Rattle.reach.proofs.Bytes.{bit-shifted, joined-none, joined-more, marked-word}
@@ -69,8 +70,9 @@ module _ (bank : List ℕ) where
       ≡ joined (marks m (concat (tab (8 * n) (marksOf bank)))) n (slotsByte bank n)
   unfolding slotsByte
   slots-marks m n =
-      part-marks (λ l. joined l n) (λ l. joined-none l n) (λ l. joined-more l n) (marksOf bank) (λ k. slotBit bank (8 * n + k)) m (8 * n) 8
-      (slot-marks n)
+      rw (tab-cut (8 * n) 8 (marksOf bank), concat-append, marks-append)
+      (part-marks (λ l. joined l n) (λ l. joined-none l n) (λ l. joined-more l n) (λ k. marksOf bank (8 * n + k))
+      (λ k. slotBit bank (8 * n + k)) _ 8 (slot-marks n))
 
   lanes-to : (n : ℕ) → n ≤ laneMapSize → marks (written 0) (concat (tab (8 * n) (marksOf bank))) ≡ written n
   unfolding tab tabFrom concat marks

@@ -7,6 +7,7 @@ pub mod Words
 pub mod Axes
 pub mod Spans
 pub mod Reached
+pub mod Asked
 pub mod Pairs
 pub mod Lanes
 pub mod One

@@ -1,25 +1,28 @@
--- Laws of a span: what it reaches word by word, and which spans a row and a lookup are.
-use mathlib.Core.Path.{_≡_, refl, ap, ap₂, sym, _∙_}
-use mathlib.Core.Bool.{Bool, true, false, cond, _&&_, _||_, or-true}
-use mathlib.Core.List.{List, _∷_}
+-- Laws of a span: what it reaches word by word, and which spans a row, a lookup and the palette are.
+use mathlib.Core.Path.{_≡_, refl, ap, sym, _∙_}
+use mathlib.Core.Bool.{Bool, true, false, cond, _&&_, _||_, true≢false}
+use mathlib.Core.List.{List, [], _∷_, _++_}
 use Prim.Native.Nat.{ℕ, zero, suc, _+_, _-_, _*_, _/_, _%_, _^_, _<_, _≤_, min}
+use native.Mathlib.Numerals.{add-one}
 use native.Mathlib.Omega.{arith}
 use native.Mathlib.Nat.{mul-assoc, mul-comm, mod-eq-of-lt}
 use lib.Bits.{bitAnd, bitXor, xor-block, xor-zero-r, xor-lt}
 use lib.Dec.{ltb, leb}
-use Rattle.rules.specs.Base.{odd, tab, tabFrom, concat, any, marks, isWritten}
-use Rattle.rules.specs.Tile.{Tile, bankSize, bankWords}
+use borrow.Author.Tests.{le-leb, eq-eqb, ne-eqb}
+use Rattle.rules.specs.Base.{odd, tab, concat, any, marks, isWritten}
+use Rattle.rules.specs.Tile.{Tile, bankSize, bankWords, paletteBase}
 use Rattle.rules.specs.Texdec.{tlut}
 use Rattle.rules.specs.Sampling.{isRgba32}
 use Rattle.rules.specs.Picture.{address, swapOdd}
-use Rattle.rules.specs.Reach.{modulus, xStep, xCount, doubled, rowBytes, reachAt, reachRow, reachWhole}
+use Rattle.rules.specs.Reach.{modulus, xStep, xCount, doubled, rowBytes, reachAt, reachRow, reachWhole, paletteOrder}
 use Rattle.rules.proofs.Computed.{agree-below}
+use Rattle.rules.proofs.Tables.{tab-none, tab-more, tab-same, tab-cut, concat-append, concat-more}
 use Rattle.rdp.specs.declared.units.WordAddr.{WordAddr}
-use Rattle.reach.specs.Words.{ors, twin, wordJoined, wordMeets}
-use Rattle.reach.proofs.Joined.{found-longer}
+use Rattle.reach.specs.Words.{ors, lowWords, twin, wordJoined, wordMeets}
 use Rattle.reach.proofs.Words.{word-marks, word-any}
 use Rattle.reach.specs.declared.span.Span.{Span}
-use Rattle.reach.specs.Span.{Bounds, wordsOf, bytesOf, stepOf, placesIn, reachedAt, reached, wordIn, bitsIn, inHalves}
+use Rattle.reach.specs.Span.{Bounds, wordsOf, bytesOf, stepOf, placesIn, reachedAt, reached, inHalves, halvesOfEight}
+use Rattle.reach.specs.Span.{wordCount, wordIn, placesOf, byteOf, bitsIn, placeReached, wordReached}
 use Rattle.reach.proofs.Axes.{row-bytes-le}
 
 -- the swap of halves stays in its word
@@ -58,34 +61,48 @@ pub bank-bytes : (low : Bool) → 8 * wordsOf low ≡ bytesOf low
 bank-bytes true = refl
 bank-bytes false = refl
 
--- the places of the bytes before word w, and of those of word w
-abbrev pub cutAt : Span → ℕ → ℕ
+-- the places of the bytes before word w
+abbrev cutAt : Span → ℕ → ℕ
 cutAt s w = placesIn (s .sparse) (min (8 * w) (s .bytes))
 
-abbrev here : Span → ℕ → ℕ
-here s w = placesIn (s .sparse) (min (s .bytes - 8 * w) 8)
-
 module _ (s : Span) where
-  pub cut-none : cutAt s 0 ≡ 0
+  cut-none : cutAt s 0 ≡ 0
   cut-none = go (s .sparse)
     where
       go : (b : Bool) → placesIn b (min (8 * 0) (s .bytes)) ≡ 0
       go true = omega arith
       go false = omega arith
 
-  pub cut-all : (w : ℕ) → s .bytes ≤ 8 * w → cutAt s w ≡ placesIn (s .sparse) (s .bytes)
+  cut-all : (w : ℕ) → s .bytes ≤ 8 * w → cutAt s w ≡ placesIn (s .sparse) (s .bytes)
   cut-all w h = let e : min (8 * w) (s .bytes) ≡ s .bytes = omega arith in ap (placesIn (s .sparse)) e
 
-  cut-le : (w : ℕ) → cutAt s w ≤ placesIn (s .sparse) (s .bytes)
-  cut-le w = go (s .sparse)
+  -- a word has eight places at most, and each is one of its eight bytes
+  pub places-le : (w : ℕ) → placesOf s w ≤ 8
+  places-le w = go (s .sparse)
     where
-      go : (b : Bool) → placesIn b (min (8 * w) (s .bytes)) ≤ placesIn b (s .bytes)
+      go : (b : Bool) → placesIn b (min (s .bytes - 8 * w) 8) ≤ 8
       go true = omega arith
       go false = omega arith
 
+  pub byte-lt : (w k : ℕ) → k < placesOf s w → byteOf s k < 8
+  byte-lt w k h = swap-lt (s .odd) (stepOf (s .sparse) * k) (go (s .sparse) h)
+    where
+      go : (b : Bool) → k < placesIn b (min (s .bytes - 8 * w) 8) → stepOf b * k < 8
+      go true q = omega arith
+      go false q = omega arith
+
+  -- a word is marked, or looked at
+  pub marks-word : (w : ℕ) (m : List ℕ) → marks m (wordReached s w) ≡ wordJoined (s .twice) m (wordIn s w) (bitsIn s w)
+  unfolding wordReached placeReached bitsIn
+  marks-word w m = word-marks (wordIn s w) (s .twice) (byteOf s) m (placesOf s w) (byte-lt w)
+
+  pub any-word : (w : ℕ) (m : List ℕ) → any (isWritten m) (wordReached s w) ≡ wordMeets (s .twice) m (wordIn s w) (bitsIn s w)
+  unfolding wordReached placeReached bitsIn
+  any-word w m = word-any (wordIn s w) m (s .twice) (byteOf s) (placesOf s w) (byte-lt w)
+
 -- where word w is one of the span's
 module _ (s : Span) (w : ℕ) (h : 8 * w < s .bytes) where
-  cut-more : cutAt s (w + 1) ≡ cutAt s w + here s w
+  cut-more : cutAt s (w + 1) ≡ cutAt s w + placesOf s w
   cut-more = go (s .sparse)
     where
       go : (b : Bool) → placesIn b (min (8 * (w + 1)) (s .bytes))
@@ -101,41 +118,27 @@ module _ (s : Span) (w : ℕ) (h : 8 * w < s .bytes) where
       go true = omega arith
       go false = omega arith
 
-  inside : (k : ℕ) → k < here s w → stepOf (s .sparse) * k < 8
-  inside k = go (s .sparse)
-    where
-      go : (b : Bool) → k < placesIn b (min (s .bytes - 8 * w) 8) → stepOf b * k < 8
-      go true q = omega arith
-      go false q = omega arith
-
-  bit : ℕ → ℕ
-  bit k = swapOdd (s .odd) (stepOf (s .sparse) * k)
-
-  in-word : (k : ℕ) → k < here s w → (bit k < 8) × (reachedAt s (cutAt s w + k) ≡ twin (s .twice) (8 * wordIn s w + bit k))
-  unfolding reachedAt bit
+  in-word : (k : ℕ) → k < placesOf s w → reachedAt s (cutAt s w + k) ≡ placeReached s w k
+  unfolding reachedAt placeReached
   in-word k q =
-      let low : bit k < 8 = swap-lt (s .odd) (stepOf (s .sparse) * k) (inside k q) in
-      let at : 8 * s .first .0 + (8 * w + bit k) ≡ 8 * (s .first .0 + w) + bit k = omega arith in
-      (low, rw (place k, swap-word (s .odd) w (stepOf (s .sparse) * k), at, wrapped (s .low) (s .first .0 + w) (bit k) low))
+      let at : 8 * s .first .0 + (8 * w + byteOf s k) ≡ 8 * (s .first .0 + w) + byteOf s k = omega arith in
+      rw (place k, swap-word (s .odd) w (stepOf (s .sparse) * k), at, wrapped (s .low) (s .first .0 + w) (byteOf s k) (byte-lt s w k q))
 
-  -- one word more of the span is marked, or looked at
-  pub span-marks : (m : List ℕ) → marks m (concat (tab (cutAt s (w + 1)) (reachedAt s)))
-      ≡ wordJoined (s .twice) (marks m (concat (tab (cutAt s w) (reachedAt s)))) (wordIn s w) (bitsIn s w)
-  unfolding bitsIn bit
-  span-marks m = rw cut-more (word-marks (wordIn s w) (s .twice) (reachedAt s) bit m (cutAt s w) (here s w) in-word)
+  word-more : concat (tab (cutAt s (w + 1)) (reachedAt s)) ≡ concat (tab (cutAt s w) (reachedAt s)) ++ wordReached s w
+  unfolding wordReached
+  word-more =
+      rw (cut-more, tab-cut (cutAt s w) (placesOf s w) (reachedAt s), concat-append, tab-same (placesOf s w) _ (placeReached s w) in-word)
 
-  pub span-any : (m : List ℕ) → any (isWritten m) (concat (tab (cutAt s (w + 1)) (reachedAt s)))
-      ≡ (any (isWritten m) (concat (tab (cutAt s w) (reachedAt s))) || wordMeets (s .twice) m (wordIn s w) (bitsIn s w))
-  unfolding bitsIn bit
-  span-any m = rw cut-more (word-any (wordIn s w) m (s .twice) (reachedAt s) bit (cutAt s w) (here s w) in-word)
+-- what a span reaches is what its words do, one after the other
+module _ (s : Span) where
+  words-to : (w : ℕ) → w ≤ wordCount s → concat (tab (cutAt s w) (reachedAt s)) ≡ concat (tab w (wordReached s))
+  words-to zero h = rw (cut-none s, tab-none (reachedAt s), tab-none (wordReached s))
+  words-to (suc w) h =
+      rw (← add-one w, word-more s w (omega arith), words-to w (omega arith), concat-more)
 
-  -- what is found in the word is found in the span
-  pub span-found : (m : List ℕ) → wordMeets (s .twice) m (wordIn s w) (bitsIn s w) ≡ true → any (isWritten m) (reached s) ≡ true
+  pub reached-words : reached s ≡ concat (tab (wordCount s) (wordReached s))
   unfolding reached
-  span-found m e =
-      let all = placesIn (s .sparse) (s .bytes) in
-      let n : cutAt s (w + 1) + (all - cutAt s (w + 1)) ≡ all = omega (arith, cut-le s (w + 1)) in
-      rw (← n) (found-longer (isWritten m) (reachedAt s) (cutAt s (w + 1)) _ (span-any m ∙ simp (e, or-true)))
+  reached-words = rw (← cut-all s (wordCount s) (omega arith)) (words-to (wordCount s) (omega arith))
 
 -- the bits of the first n bytes of a word as they are made, and as the places have them
 abbrev made : Bool → Bool → ℕ → ℕ
@@ -152,11 +155,20 @@ bits-placed true false n h = agree-below 9 (made true false) (placed true false)
 bits-placed false true n h = agree-below 9 (made false true) (placed false true) tt n (omega arith)
 bits-placed false false n h = agree-below 9 (made false false) (placed false false) tt n (omega arith)
 
--- tables that agree below n
-tab-same : (i n : ℕ) (f g : ℕ → List ℕ) → ((k : ℕ) → k < i + n → f k ≡ g k) → tabFrom i n f ≡ tabFrom i n g
-unfolding tabFrom
-tab-same i zero f g e = refl
-tab-same i (suc n) f g e = ap₂ _∷_ (e i (omega arith)) (tab-same (suc i) n f g (λ k h. e k (omega arith)))
+-- and so for all bits of those bytes
+abbrev madeLanes : Bool → Bool → ℕ → ℕ
+madeLanes sparse odd n =
+    cond sparse (bitAnd (halvesOfEight odd (2 ^ (8 * n) - 1)) 71777214294589695) (halvesOfEight odd (2 ^ (8 * n) - 1))
+
+abbrev placedLanes : Bool → Bool → ℕ → ℕ
+placedLanes sparse odd n = ors (placesIn sparse n) (λ j. 255 * 2 ^ (8 * swapOdd odd (stepOf sparse * j)))
+
+pub lanes-placed : (sparse odd : Bool) (n : ℕ) → n ≤ 8 → madeLanes sparse odd n ≡ placedLanes sparse odd n
+unfolding ors
+lanes-placed true true n h = agree-below 9 (madeLanes true true) (placedLanes true true) tt n (omega arith)
+lanes-placed true false n h = agree-below 9 (madeLanes true false) (placedLanes true false) tt n (omega arith)
+lanes-placed false true n h = agree-below 9 (madeLanes false true) (placedLanes false true) tt n (omega arith)
+lanes-placed false false n h = agree-below 9 (madeLanes false false) (placedLanes false false) tt n (omega arith)
 
 -- byte x of a row, from the row's first word and from the tile's
 row-place : (low : Bool) (first word line y x : ℕ) (o : Bool) → first ≡ (word + y * line) % bankWords
@@ -196,12 +208,12 @@ module _ (t : Tile) (mode : ℕ) where
       }
 
   pub whole-reached : reached wholeSpan ≡ reachWhole t mode
-  unfolding reached reachedAt reachWhole doubled twin tab
+  unfolding reached reachedAt reachWhole doubled twin
   whole-reached =
       let n : placesIn false (modulus t mode) ≡ modulus t mode = omega arith in
       ap concat
-      (ap (λ n. tabFrom 0 n (reachedAt wholeSpan)) n
-      ∙ tab-same 0 (modulus t mode) (reachedAt wholeSpan) (doubled t mode) (λ k h. ap (twin bothHalves) (at k (omega arith))))
+      (ap (λ n. tab n (reachedAt wholeSpan)) n
+      ∙ tab-same (modulus t mode) (reachedAt wholeSpan) (doubled t mode) (λ k h. ap (twin bothHalves) (at k h)))
     where
       at : (k : ℕ) → k < modulus t mode → (8 * 0 + 1 * k) % modulus t mode ≡ k
       at k h = let e : 8 * 0 + 1 * k ≡ k = omega arith in rw e (mod-eq-of-lt h)
@@ -220,10 +232,10 @@ module _ (t : Tile) (mode : ℕ) where
 
   pub row-reached : (first : WordAddr) (y : ℕ) → first .0 ≡ (t .tmem-addr + y * t .line) % bankWords
       → reached (rowSpan first y) ≡ reachRow t mode y
-  unfolding reached reachedAt reachRow reachAt doubled twin tab
+  unfolding reached reachedAt reachRow reachAt doubled twin
   row-reached first y e =
       ap concat
-      (tab-same 0 (xCount t mode) (reachedAt (rowSpan first y)) (reachAt t mode y)
+      (tab-same (xCount t mode) (reachedAt (rowSpan first y)) (reachAt t mode y)
       (λ i h. ap (twin bothHalves) (row-place lowHalf (first .0) (t .tmem-addr) (t .line) y (xStep t mode * i) (odd y) e)))
 
   pub row-bounds : (first : WordAddr) (y : ℕ) → Bounds (rowSpan first y)
@@ -235,3 +247,47 @@ module _ (t : Tile) (mode : ℕ) where
       go : (low : Bool) → bytesOf low ≤ bankSize
       go true = omega arith
       go false = omega arith
+
+-- lists of one number each
+concat-one : (n : ℕ) (f : ℕ → ℕ) → concat (tab n (λ i. f i ∷ [])) ≡ tab n f
+unfolding concat
+concat-one zero f = rw (tab-none (λ (i : ℕ). f i ∷ []), tab-none f)
+concat-one (suc n) f = rw (← add-one n, concat-more n (λ (i : ℕ). f i ∷ []), concat-one n f, tab-more n f)
+
+-- bytes of the upper half as a span
+module _ (word bytes : ℕ) (h : 8 * word + bytes ≤ paletteBase) where
+  abbrev upperSpan : Span
+  upperSpan =
+      record {
+        first = record { 0 = lowWords + word };
+        bytes = bytes;
+        odd = false;
+        sparse = false;
+        low = false;
+        twice = false;
+      }
+
+  pub upper-reached : reached upperSpan ≡ tab bytes (λ i. paletteBase + 8 * word + i)
+  unfolding reached reachedAt twin
+  upper-reached =
+      let n : placesIn false bytes ≡ bytes = omega arith in
+      ap (λ n. concat (tab n (reachedAt upperSpan))) n
+      ∙ ap concat
+      (tab-same bytes (reachedAt upperSpan) (λ i. (paletteBase + 8 * word + i) ∷ []) (λ i l. ap (λ a. a ∷ []) (at i l)))
+      ∙ concat-one bytes (λ i. paletteBase + 8 * word + i)
+    where
+      at : (i : ℕ) → i < bytes → (8 * (lowWords + word) + 1 * i) % bankSize ≡ paletteBase + 8 * word + i
+      at i l = omega arith
+
+  pub upper-bounds : Bounds upperSpan
+  upper-bounds = record { bytes = omega arith; twice = λ t. absurd (true≢false (sym t)) }
+
+-- the palette's order: the tile's own, or all
+module _ (t : Tile) (mode : ℕ) (h : 2 ≤ mode) where
+  pub palette-own : t .siz ≡ 0 → tab 128 (λ i. paletteBase + 8 * (16 * t .palette) + i) ≡ paletteOrder t mode
+  unfolding paletteOrder
+  palette-own z = rw (le-leb 2 mode h, eq-eqb (t .siz) 0 z) (tab-same 128 _ _ (λ i l. omega arith))
+
+  pub palette-all : (t .siz ≡ 0 → ⊥) → tab 2048 (λ i. paletteBase + 8 * 0 + i) ≡ paletteOrder t mode
+  unfolding paletteOrder
+  palette-all z = rw (le-leb 2 mode h, ne-eqb (t .siz) 0 z) (tab-same 2048 _ _ (λ i l. omega arith))

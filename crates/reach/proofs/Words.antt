@@ -1,39 +1,35 @@
--- Laws of a list that goes on by the places of one word: marking them, or looking for one, is one step on the word's byte.
+-- Laws of the places of one word: marking them, or looking for one, is one step on the word's byte.
 use mathlib.Core.Path.{_≡_, refl, ap, ap₂, sym, _∙_}
-use mathlib.Core.Bool.{Bool, true, false, _||_, or-false, or-assoc}
+use mathlib.Core.Bool.{Bool, true, false, _||_, or-false}
 use mathlib.Core.List.{List}
 use Prim.Native.Nat.{ℕ, zero, suc, _+_, _*_, _^_, _<_}
 use native.Mathlib.Omega.{arith}
-use native.Mathlib.Nat.{add-zero}
+use native.Mathlib.Numerals.{add-one}
 use lib.Bits.{bitOr}
 use Rattle.rules.specs.Base.{tab, concat, any, marks, isWritten}
 use Rattle.rules.specs.Tile.{paletteBase}
 use Rattle.rules.proofs.Tables.{concat-more}
 use Rattle.rules.proofs.Maps.{marks-append}
 use Rattle.reach.specs.Words.{ors, joined, meets, lowWords, twin, wordJoined, wordMeets}
-use Rattle.reach.proofs.Joined.{one-more, any-more}
+use Rattle.reach.proofs.Joined.{marks-none, none-yet, any-more, any-search}
 use Rattle.reach.proofs.Bytes.{joined-none, joined-more, joined-swap, marked-word, meets-none, meets-more, is-written-word}
 
 -- where place k does to a map what J does with the bits h k
 module _ (J : List ℕ → ℕ → List ℕ) (none : (l : List ℕ) → J l 0 ≡ l) (more : (l : List ℕ) (a b : ℕ) → J (J l a) b ≡ J l (bitOr a b))
-    (f : ℕ → List ℕ) (h : ℕ → ℕ) (m : List ℕ) (a : ℕ) where
-  pub part-marks : (n : ℕ) → ((k : ℕ) → k < n → (l : List ℕ) → marks l (f (a + k)) ≡ J l (h k))
-      → marks m (concat (tab (a + n) f)) ≡ J (marks m (concat (tab a f))) (ors n h)
+    (f : ℕ → List ℕ) (h : ℕ → ℕ) (m : List ℕ) where
+  pub part-marks : (n : ℕ) → ((k : ℕ) → k < n → (l : List ℕ) → marks l (f k) ≡ J l (h k)) → marks m (concat (tab n f)) ≡ J m (ors n h)
   unfolding ors
-  part-marks zero e = rw add-zero (sym (none _))
+  part-marks zero e = marks-none m f ∙ sym (none m)
   part-marks (suc n) e =
-      rw (one-more, concat-more, marks-append, part-marks n (λ k q. e k (omega arith)), e n (omega arith), more)
+      rw (← add-one n, concat-more, marks-append, part-marks n (λ k q. e k (omega arith)), e n (omega arith), more)
 
 -- where place k has what the test t finds in the bits h k
 module _ (p : ℕ → Bool) (t : ℕ → Bool) (none : t 0 ≡ false) (more : (a b : ℕ) → t (bitOr a b) ≡ (t a || t b))
-    (f : ℕ → List ℕ) (h : ℕ → ℕ) (a : ℕ) where
-  part-any : (n : ℕ) → ((k : ℕ) → k < n → any p (f (a + k)) ≡ t (h k))
-      → any p (concat (tab (a + n) f)) ≡ (any p (concat (tab a f)) || t (ors n h))
+    (f : ℕ → List ℕ) (h : ℕ → ℕ) where
+  part-any : (n : ℕ) → ((k : ℕ) → k < n → any p (f k) ≡ t (h k)) → any p (concat (tab n f)) ≡ t (ors n h)
   unfolding ors
-  part-any zero e = rw (add-zero, none) (sym (or-false _))
-  part-any (suc n) e =
-      rw (one-more, any-more p f (a + n), part-any n (λ k q. e k (omega arith)), e n (omega arith), more)
-      (or-assoc (any p (concat (tab a f))) (t (ors n h)) (t (h n)))
+  part-any zero e = none-yet (any-search p) f ∙ sym none
+  part-any (suc n) e = rw (← add-one n, any-more p f n, part-any n (λ k q. e k (omega arith)), e n (omega arith), more)
 
 -- the same for the word w, with the one that it stands for
 module _ (w : ℕ) where
@@ -62,13 +58,12 @@ module _ (w : ℕ) where
   word-twin true s h m = rw (upper, marked-word _ w s h, marked-word _ (w + lowWords) s h)
   word-twin false s h m = marked-word m w s h
 
-  -- the list goes on by n places of the word, place k at bit g k
-  pub word-marks : (twice : Bool) (f : ℕ → List ℕ) (g : ℕ → ℕ) (m : List ℕ) (a n : ℕ)
-      → ((k : ℕ) → k < n → (g k < 8) × (f (a + k) ≡ twin twice (8 * w + g k)))
-      → marks m (concat (tab (a + n) f)) ≡ wordJoined twice (marks m (concat (tab a f))) w (ors n (λ k. 2 ^ g k))
-  word-marks twice f g m a n e =
-      part-marks (λ l. wordJoined twice l w) (word-none twice) (word-more twice) f (λ k. 2 ^ g k) m a n
-      (λ k h l. rw (e k h .1) (word-twin twice (g k) (e k h .0) l))
+  -- n places of the word, place k at bit g k
+  pub word-marks : (twice : Bool) (g : ℕ → ℕ) (m : List ℕ) (n : ℕ) → ((k : ℕ) → k < n → g k < 8)
+      → marks m (concat (tab n (λ k. twin twice (8 * w + g k)))) ≡ wordJoined twice m w (ors n (λ k. 2 ^ g k))
+  word-marks twice g m n e =
+      part-marks (λ l. wordJoined twice l w) (word-none twice) (word-more twice) (λ k. twin twice (8 * w + g k)) (λ k. 2 ^ g k) m n
+      (λ k h l. word-twin twice (g k) (e k h) l)
 
   module _ (m : List ℕ) where
     found-none : (twice : Bool) → wordMeets twice m w 0 ≡ false
@@ -95,10 +90,8 @@ module _ (w : ℕ) where
         rw (upper, is-written-word m w s h, is-written-word m (w + lowWords) s h, or-false (meets m (w + lowWords) (2 ^ s)))
     found-twin false s h = rw (is-written-word m w s h) (or-false _)
 
-    pub word-any : (twice : Bool) (f : ℕ → List ℕ) (g : ℕ → ℕ) (a n : ℕ)
-        → ((k : ℕ) → k < n → (g k < 8) × (f (a + k) ≡ twin twice (8 * w + g k)))
-        → any (isWritten m) (concat (tab (a + n) f))
-        ≡ (any (isWritten m) (concat (tab a f)) || wordMeets twice m w (ors n (λ k. 2 ^ g k)))
-    word-any twice f g a n e =
-        part-any (isWritten m) (wordMeets twice m w) (found-none twice) (found-more twice) f (λ k. 2 ^ g k) a n
-        (λ k h. rw (e k h .1) (found-twin twice (g k) (e k h .0)))
+    pub word-any : (twice : Bool) (g : ℕ → ℕ) (n : ℕ) → ((k : ℕ) → k < n → g k < 8)
+        → any (isWritten m) (concat (tab n (λ k. twin twice (8 * w + g k)))) ≡ wordMeets twice m w (ors n (λ k. 2 ^ g k))
+    word-any twice g n e =
+        part-any (isWritten m) (wordMeets twice m w) (found-none twice) (found-more twice) (λ k. twin twice (8 * w + g k)) (λ k. 2 ^ g k) n
+        (λ k h. found-twin twice (g k) (e k h))

@@ -39,13 +39,33 @@ wordCount s = (s .bytes + 7) / 8
 abbrev pub wordIn : Span → ℕ → ℕ
 wordIn s w = (s .first .0 + w) % wordsOf (s .low)
 
--- the bits of its bytes
+-- how many places it has, the byte of place k, and its bits
+abbrev pub placesOf : Span → ℕ → ℕ
+placesOf s w = placesIn (s .sparse) (min (s .bytes - 8 * w) 8)
+
+abbrev pub byteOf : Span → ℕ → ℕ
+byteOf s k = swapOdd (s .odd) (stepOf (s .sparse) * k)
+
 unfoldable pub bitsIn : Span → ℕ → ℕ
-bitsIn s w = ors (placesIn (s .sparse) (min (s .bytes - 8 * w) 8)) (λ j. 2 ^ swapOdd (s .odd) (stepOf (s .sparse) * j))
+bitsIn s w = ors (placesOf s w) (λ k. 2 ^ byteOf s k)
+
+-- all bits of those bytes in the number of the word's eight
+unfoldable pub lanesIn : Span → ℕ → ℕ
+lanesIn s w = ors (placesOf s w) (λ k. 255 * 2 ^ (8 * byteOf s k))
+
+-- what place k of word w reaches, and what the word does
+unfoldable pub placeReached : Span → ℕ → ℕ → List ℕ
+placeReached s w k = twin (s .twice) (8 * wordIn s w + byteOf s k)
+
+unfoldable pub wordReached : Span → ℕ → List ℕ
+wordReached s w = concat (tab (placesOf s w) (placeReached s w))
 
 -- the bits of a word whose halves change places on odd rows
 abbrev pub inHalves : Bool → ℕ → ℕ
 inHalves odd bits = cond odd (bitOr (bits * 2 ^ 4 % 2 ^ 8) (bits / 2 ^ 4)) bits
+
+abbrev pub halvesOfEight : Bool → ℕ → ℕ
+halvesOfEight odd bytes = cond odd (bitOr (bytes * 2 ^ 32 % 2 ^ 64) (bytes / 2 ^ 32)) bytes
 
 -- a span has the bank's bytes at most, and addresses that stand for others are in the lower half
 pub record Bounds (s : Span) : Type 0 where

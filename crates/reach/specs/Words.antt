@@ -26,9 +26,12 @@ markBit map w k = cond (isWritten map (8 * w + k)) (2 ^ k) 0
 unfoldable pub wordMarks : List ℕ → ℕ → ℕ
 wordMarks map w = ors 8 (markBit map w)
 
--- the sixteen bytes of its numbers in one
+-- eight bytes as one number, the first lowest; and the sixteen of a word's numbers in one
+unfoldable pub eightBytes : List ℕ → ℕ → ℕ
+eightBytes bytes from = ors 8 (λ k. getD bytes (from + k) 0 * 2 ^ (8 * k))
+
 unfoldable pub wordBytes : List ℕ → ℕ → ℕ
-wordBytes map w = ors 16 (λ k. getD map (16 * w + k) 0)
+wordBytes map w = bitOr (eightBytes map (16 * w)) (eightBytes map (16 * w + 8))
 
 -- one of the bits is set in them
 unfoldable pub meets : List ℕ → ℕ → ℕ → Bool

@@ -11,7 +11,7 @@ use tmem::bank::Bank;
 const ADDRESS_BITS: usize = 12;
 
 // The smaller of two numbers.
-fn lesser(a: usize, b: usize) -> usize
+pub(crate) fn lesser(a: usize, b: usize) -> usize
     ensures { λ r. ⌜ r ≡ min a b ⌝ }
 {
     if a < b { a } else { b }

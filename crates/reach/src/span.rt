@@ -1,19 +1,29 @@
-// Spans of addresses, word by word: a row of a tile, or all that a lookup reaches.
+// Spans of addresses, word by word: a row of a tile, all that a lookup reaches, or its palette.
 ghost use mathlib.Core.Bool.{true};
 ghost use mathlib.Core.Path.{_≡_};
-ghost use Prim.Native.Nat.{_*_, _-_, _^_, _<_, _≤_, min};
-ghost use Rattle.rules.specs.Reach.{rowBytes, reachRow, reachWhole};
+ghost use Prim.Native.Nat.{ℕ, _+_, _*_, _-_, _^_, _<_, _≤_, min};
+ghost use lib.Bits.{bitAnd};
+ghost use Rattle.rules.specs.Base.{tab};
+ghost use Rattle.rules.specs.Reach.{rowBytes, reachRow, reachWhole, paletteOrder};
 ghost use Rattle.rules.specs.Sampling.{isRgba32};
-ghost use Rattle.rules.specs.Tile.{bankSize, bankWords};
+ghost use Rattle.rules.specs.Tile.{bankSize, bankWords, paletteBase, InRange};
 ghost use Rattle.rdp.specs.View.{tileOf};
 ghost use Rattle.reach.specs.Words.{lowWords};
-ghost use Rattle.reach.specs.Span.{Bounds, wordsOf, reached, wordCount, wordIn, bitsIn, inHalves};
+ghost use Rattle.reach.specs.Span.{Bounds, wordsOf, reached, wordCount, wordIn, placesOf, byteOf, bitsIn, inHalves, lanesIn, halvesOfEight};
+use crate::extent;
 use rdp::tile::TileDescriptor;
+use rdp::units;
 use rdp::units::WordAddr;
 use tmem::bank::Bank;
 
+// The word at which the upper half starts, the palette's.
+const UPPER: u32 = Bank::PALETTE_BASE as u32 / 8;
+
 // Every second bit of a byte, from the lowest on.
 const EVEN_BITS: u8 = 0x55;
+
+// Every second byte of eight.
+const EVEN_BYTES: u64 = 0x00ff_00ff_00ff_00ff;
 
 // The bytes from the start of a word on, wrapped at the bank's end, or where it is `low` at the palette. Where it is `sparse`
 // every second one alone is reached, where it is `odd` the halves of a word change places, and where it is `twice` each
@@ -53,11 +63,33 @@ fn first_bits(count: usize) -> u8
     if count < 8 { (1u8 << count) - 1 } else { 255 }
 }
 
+// All bits of the lowest bytes, eight at most.
+fn first_bytes(count: usize) -> u64
+    ensures { λ r. ⌜ r ≡ 2 ^ (8 * min count 8) - 1 ⌝ }
+{
+    if count < 8 {
+        (1u64 << 8 * count) - 1
+    } else {
+        0xffff_ffff_ffff_ffff
+    }
+}
+
 // On odd rows the halves of a word change places.
 fn in_halves(odd: bool, bits: u8) -> u8
     ensures { λ r. ⌜ r ≡ inHalves odd bits ⌝ }
 {
     if odd { bits << 4 | bits >> 4 } else { bits }
+}
+
+// The same for the eight bytes of a word.
+fn halves_of_eight(odd: bool, bytes: u64) -> u64
+    ensures { λ r. ⌜ r ≡ halvesOfEight odd bytes ⌝ }
+{
+    if odd {
+        bytes << 32 | bytes >> 32
+    } else {
+        bytes
+    }
 }
 
 impl Span {
@@ -96,6 +128,34 @@ impl Span {
         }
     }
 
+    // Bytes of the upper half in their order, from one of its words on.
+    fn upper(word: u32, bytes: usize) -> Span
+        requires { ⌜ 8 * word + bytes ≤ paletteBase ⌝ }
+        ensures { λ r. ⌜ reached r ≡ tab bytes (λ i. paletteBase + 8 * word + i) ⌝ }
+        ensures { λ r. ⌜ Bounds r ⌝ }
+    {
+        Span {
+            first: WordAddr(UPPER + word),
+            bytes,
+            odd: false,
+            sparse: false,
+            low: false,
+            twice: false,
+        }
+    }
+
+    // The palette in its order: the tile's own where an index has four bits, else all that the upper half has.
+    pub(crate) fn palette(tile: TileDescriptor) -> Span
+        requires { ⌜ InRange (tileOf tile) ⌝ }
+        ensures { λ r. ⌜ ((mode : ℕ) → 2 ≤ mode → reached r ≡ paletteOrder (tileOf tile) mode) ⌝ }
+        ensures { λ r. ⌜ Bounds r ⌝ }
+    {
+        if tile.siz == 0 {
+            return Span::upper(16 * tile.palette, 128);
+        }
+        Span::upper(0, Bank::SIZE - Bank::PALETTE_BASE)
+    }
+
     // How many words it has, the last one whole or not.
     pub(crate) fn words(self) -> usize
         requires { ⌜ Bounds self ⌝ }
@@ -121,5 +181,47 @@ impl Span {
     {
         let bits = in_halves(self.odd, first_bits(self.bytes - 8 * w));
         if self.sparse { bits & EVEN_BITS } else { bits }
+    }
+
+    // All bits of those bytes, where the eight bytes of the word are one number.
+    fn lanes(self, w: usize) -> u64
+        requires { ⌜ 8 * w < self .bytes ⌝ }
+        ensures { λ r. ⌜ r ≡ lanesIn self w ⌝ }
+    {
+        let bytes = halves_of_eight(self.odd, first_bytes(self.bytes - 8 * w));
+        if self.sparse {
+            bytes & EVEN_BYTES
+        } else {
+            bytes
+        }
+    }
+
+    // Those bytes are zero in such a number. Most numbers are zero whole, which is tested first.
+    pub(crate) fn is_zero(self, w: usize, eight: u64) -> bool
+        requires { ⌜ 8 * w < self .bytes ⌝ }
+        ensures { λ r. ⌜ (r ≡ true → bitAnd (lanesIn self w) eight ≡ 0) ⌝ }
+    {
+        if eight == 0 {
+            return true;
+        }
+        self.lanes(w) & eight == 0
+    }
+
+    // How many places word w has.
+    pub(crate) fn places(self, w: usize) -> usize
+        requires { ⌜ 8 * w < self .bytes ⌝ }
+        ensures { λ r. ⌜ r ≡ placesOf self w ⌝ }
+    {
+        let bytes = extent::lesser(self.bytes - 8 * w, 8);
+        if self.sparse { (bytes + 1) / 2 } else { bytes }
+    }
+
+    // Which of its bytes place k is.
+    pub(crate) fn byte(self, k: usize) -> usize
+        requires { ⌜ k < 8 ⌝ }
+        ensures { λ r. ⌜ r ≡ byteOf self k ⌝ }
+    {
+        let byte = if self.sparse { 2 * k } else { k };
+        units::swap_odd_line(byte, self.odd)
     }
 }

@@ -1,10 +1,10 @@
 // Several bits of one word at once: set in a map, or looked for in the written record.
 ghost use mathlib.Core.Bool.{true, false};
 ghost use mathlib.Core.Path.{_≡_};
-ghost use Prim.Native.Nat.{ℕ, _<_};
+ghost use Prim.Native.Nat.{ℕ, _+_, _<_, _≤_};
 ghost use lib.ListN.{length};
 ghost use Rattle.rules.specs.Tile.{bankWords, mapSize, writtenSize};
-ghost use Rattle.reach.specs.Words.{joined, markBit, wordMarks, wordBytes, meets, lowWords, wordJoined, wordMeets};
+ghost use Rattle.reach.specs.Words.{joined, markBit, wordMarks, eightBytes, wordBytes, meets, lowWords, wordJoined, wordMeets};
 use tmem::bank::Bank;
 
 // The bits are set in byte `at`.
@@ -27,17 +27,32 @@ pub(crate) fn mark_word(map: &mut [u8], twice: bool, at: usize, bits: u8)
     }
 }
 
+// A byte as a wider number.
+fn wide(byte: u8) -> u64
+    ensures { λ r. ⌜ (r ≡ byte) × (r < 256) ⌝ }
+{
+    byte as u64
+}
+
+// Eight bytes as one number, the first lowest, which the processor reads at once.
+pub(crate) fn eight_bytes(bytes: &[u8], from: usize) -> u64
+    requires { ⌜ from + 8 ≤ length (now bytes) ⌝ }
+    ensures { λ r. ⌜ r ≡ eightBytes (now (bytes .entry)) from ⌝ }
+{
+    let mut all = 0u64;
+    for k in 0..8 {
+        all = all | wide(bytes[from + k]) << 8 * k;
+    }
+    all
+}
+
 // The bytes of a word's numbers, or-ed together.
-fn word_bytes(written: &[u8], at: usize) -> u8
+fn word_bytes(written: &[u8], at: usize) -> u64
     requires { ⌜ length (now written) ≡ writtenSize ⌝ }
     requires { ⌜ at < bankWords ⌝ }
     ensures { λ r. ⌜ r ≡ wordBytes (now (written .entry)) at ⌝ }
 {
-    let mut bytes = 0u8;
-    for k in 0..16 {
-        bytes = bytes | written[16 * at + k];
-    }
-    bytes
+    eight_bytes(written, 16 * at) | eight_bytes(written, 16 * at + 8)
 }
 
 // The bit of an address in the marks of its word, where it is written.

@@ -1,14 +1,14 @@
 -- `reach::has_load::rows_meet` searches row after row. The loop's invariant: nothing was found in the rows below y. Assumes
 -- nothing.
 use mathlib.Core.Path.{_≡_, sym, _∙_}
-use mathlib.Core.Bool.{false}
+use mathlib.Core.Bool.{true, false, true≢false}
 use Prim.Native.Nat.{_≤_, _-_}
 use native.Mathlib.Omega.{arith}
 use borrow.Author.Needs.{needs}
 use Rattle.rules.specs.Base.{tab, concat, any, isWritten}
 use Rattle.rules.specs.Reach.{reachRow, reachPlain}
 use Rattle.rdp.specs.View.{tileOf}
-use Rattle.reach.proofs.Joined.{none-yet, none-more, found}
+use Rattle.reach.proofs.Joined.{none-yet, none-more, first-found, any-search}
 use Rattle.reach.proofs.Axes.{rows-le}
 use Rattle.reach.proofs.has_load.rows_meet.Statement.{statement}
 use Rattle.reach.proofs.has_load.rows_meet.Tie as tie
@@ -27,7 +27,7 @@ reach-rows-requires : tie.Need-reach-rows-requires Inv-loop μ-loop
 reach-rows-requires c κs = search needs
 
 loop-holds : tie.Need-loop-holds Inv-loop μ-loop
-loop-holds c = (omega arith, none-yet _ _)
+loop-holds c = (omega arith, none-yet (any-search _) _)
 
 of-row-requires : tie.Need-of-row-requires Inv-loop μ-loop
 of-row-requires c κs =
@@ -46,7 +46,8 @@ found-in c = c .span-meets .ensures ∙ rw (c .before .of-row .ensures .0)
 returns : tie.Need-returns Inv-loop μ-loop
 unfolding reachPlain
 returns c =
-    sym (found _ _ (c .before .before .before .before .loop .y) _ (omega arith) (sym (found-in (c .before)) ∙ c .if1 .taken))
+    let l = c .before .before .before .before .loop in
+    first-found (any-search _) _ (l .y) _ (omega arith) (l .inv .1) true (sym (c .if1 .taken) ∙ found-in (c .before)) true≢false
 
 add-y : tie.Need-add-y Inv-loop μ-loop
 add-y c = search needs
@@ -56,7 +57,7 @@ loop-less c = search needs
 
 loop-again : tie.Need-loop-again Inv-loop μ-loop
 loop-again c =
-    (search needs, none-more _ _ _ (c .before .before .before .before .loop .inv .1) (sym (found-in (c .before)) ∙ c .if1 .left))
+    (search needs, none-more (any-search _) _ _ (c .before .before .before .before .loop .inv .1) (sym (found-in (c .before)) ∙ c .if1 .left))
 
 returns-2 : tie.Need-returns-2 Inv-loop μ-loop
 unfolding reachPlain

@@ -1,21 +1,20 @@
--- `reach::has_load::span_meets` looks at word after word. The loop's invariant: nothing was found at the span's places before
+-- `reach::has_load::span_meets` looks at word after word. The loop's invariant: nothing was found in the span's words before
 -- word w. Assumes nothing.
 use mathlib.Core.Path.{_≡_, sym, _∙_}
-use mathlib.Core.Bool.{false}
+use mathlib.Core.Bool.{true, false, true≢false}
 use Prim.Native.Nat.{_-_, _≤_}
 use native.Mathlib.Omega.{arith}
 use borrow.Author.Needs.{needs}
 use Rattle.rules.specs.Base.{tab, concat, any, isWritten}
-use Rattle.reach.proofs.Joined.{none-yet}
-use Rattle.reach.specs.Words.{wordMeets}
-use Rattle.reach.specs.Span.{reachedAt, reached, wordIn, bitsIn}
-use Rattle.reach.proofs.Spans.{cutAt, cut-none, cut-all, span-any, span-found}
+use Rattle.reach.proofs.Joined.{none-yet, none-more, first-found, any-search}
+use Rattle.reach.specs.Span.{wordReached}
+use Rattle.reach.proofs.Spans.{any-word, reached-words}
 use Rattle.reach.proofs.has_load.span_meets.Statement.{statement}
 use Rattle.reach.proofs.has_load.span_meets.Tie as tie
 
 abbrev Inv-loop : tie.InvT-loop
 Inv-loop written span words w₀ w =
-    (w ≤ words) × (any (isWritten written) (concat (tab (cutAt span w) (reachedAt span))) ≡ false)
+    (w ≤ words) × (any (isWritten written) (concat (tab w (wordReached span))) ≡ false)
 
 abbrev μ-loop : tie.MeasureT-loop
 μ-loop written span words w₀ w = words - w
@@ -24,7 +23,7 @@ words-requires : tie.Need-words-requires Inv-loop μ-loop
 words-requires c κs = search needs
 
 loop-holds : tie.Need-loop-holds Inv-loop μ-loop
-loop-holds c = (omega arith, rw (cut-none (c .before .before .args .span)) (none-yet _ _))
+loop-holds c = (omega arith, none-yet (any-search _) _)
 
 word-requires : tie.Need-word-requires Inv-loop μ-loop
 word-requires c κs =
@@ -41,14 +40,18 @@ word-meets-requires c κs =
 -- what the test says, of the word that the laws name
 found : (c : tie.After-word-meets Inv-loop μ-loop) → let l = c .before .before .before .before in
     let e = l .before .before .before .args in
-    c .word-meets .result ≡ wordMeets (e .span .twice) (e .written .now) (wordIn (e .span) (l .loop .w)) (bitsIn (e .span) (l .loop .w))
-found c = c .word-meets .ensures ∙ rw (c .before .before .word .ensures .0, c .before .bits .ensures)
+    c .word-meets .result ≡ any (isWritten (e .written .now)) (wordReached (e .span) (l .loop .w))
+found c =
+    let l = c .before .before .before .before in
+    c .word-meets .ensures
+    ∙ rw (c .before .before .word .ensures .0, c .before .bits .ensures)
+    (sym (any-word (l .before .before .before .args .span) (l .loop .w) _))
 
 returns : tie.Need-returns Inv-loop μ-loop
 returns c =
     let l = c .before .before .before .before .before in
-    let e = l .before .before .before .args in
-    sym (span-found (e .span) (l .loop .w) (omega arith) (e .written .now) (sym (found (c .before)) ∙ c .if1 .taken))
+    rw reached-words
+    (first-found (any-search _) _ (l .loop .w) _ (omega arith) (l .loop .inv .1) true (sym (c .if1 .taken) ∙ found (c .before)) true≢false)
 
 add-w : tie.Need-add-w Inv-loop μ-loop
 add-w c = search needs
@@ -59,16 +62,13 @@ loop-less c = search needs
 loop-again : tie.Need-loop-again Inv-loop μ-loop
 loop-again c =
     let l = c .before .before .before .before .before in
-    let e = l .before .before .before .args in (
-      search needs,
-      span-any (e .span) (l .loop .w) (omega arith) (e .written .now) ∙ rw (l .loop .inv .1, sym (found (c .before)) ∙ c .if1 .left),
-    )
+    (search needs, none-more (any-search _) _ _ (l .loop .inv .1) (sym (found (c .before)) ∙ c .if1 .left))
 
 returns-2 : tie.Need-returns-2 Inv-loop μ-loop
-unfolding reached
 returns-2 c =
     let l = c .before in
-    rw (← cut-all (l .before .before .before .args .span) (l .loop .w) (omega arith)) (sym (l .loop .inv .1))
+    let end : l .loop .w ≡ l .before .words .result = omega arith in
+    rw (reached-words, ← l .before .words .ensures, ← end) (sym (l .loop .inv .1))
 
 pub span-meets-spec : {M : Type 1} → statement M
 span-meets-spec =

@@ -1,4 +1,4 @@
--- `reach::reach::mark_span` marks word after word. The loop's invariant: the map has the marks of the span's places before
+-- `reach::reach::mark_span` marks word after word. The loop's invariant: the map has the marks of the span's words before
 -- word w. Assumes nothing.
 use mathlib.Core.Path.{_≡_, sym, _∙_}
 use Prim.Native.Nat.{_-_, _≤_}
@@ -7,15 +7,15 @@ use lib.ListN.{length}
 use borrow.Author.Needs.{needs}
 use Rattle.rules.specs.Base.{tab, concat, marks}
 use Rattle.rules.specs.Tile.{mapSize}
-use Rattle.reach.proofs.Joined.{marks-none}
-use Rattle.reach.specs.Span.{reachedAt, reached}
-use Rattle.reach.proofs.Spans.{cutAt, cut-none, cut-all, span-marks}
+use Rattle.reach.proofs.Joined.{marks-none, marks-more}
+use Rattle.reach.specs.Span.{wordReached}
+use Rattle.reach.proofs.Spans.{marks-word, reached-words}
 use Rattle.reach.proofs.reach.mark_span.Statement.{statement}
 use Rattle.reach.proofs.reach.mark_span.Tie as tie
 
 abbrev Inv-loop : tie.InvT-loop
 Inv-loop map₀ span words w₀ map w =
-    (w ≤ words) × (map ≡ marks map₀ (concat (tab (cutAt span w) (reachedAt span)))) × (length map ≡ mapSize)
+    (w ≤ words) × (map ≡ marks map₀ (concat (tab w (wordReached span)))) × (length map ≡ mapSize)
 
 abbrev μ-loop : tie.MeasureT-loop
 μ-loop map₀ span words w₀ map w = words - w
@@ -26,7 +26,7 @@ words-requires c κs = search needs
 loop-holds : tie.Need-loop-holds Inv-loop μ-loop
 loop-holds c =
     let d = c .before .before in
-    (omega arith, rw (cut-none (d .args .span)) (sym (marks-none _ _)), d .pre .0)
+    (omega arith, sym (marks-none _ _), d .pre .0)
 
 word-requires : tie.Need-word-requires Inv-loop μ-loop
 word-requires c κs =
@@ -51,9 +51,10 @@ loop-again c =
     let b = d .before in
     let l = b .before .before .before .before in
     let e = l .before .before .before .args in
-    let more = span-marks (e .span) (l .loop .w) (omega arith) (e .map .now) in (
+    let next =
+    rw (b .before .word .ensures .0, b .bits .ensures, ← marks-word (e .span) (l .loop .w)) at (d .mark-word .ensures) in (
       search needs,
-      d .mark-word .ensures ∙ rw (b .before .word .ensures .0, b .bits .ensures, l .loop .inv .1) (sym more),
+      marks-more _ _ _ _ _ (l .loop .inv .1) next,
       omega (arith, d .mark-word .kept .0),
     )
 
@@ -61,11 +62,10 @@ same-length : tie.Need-same-length Inv-loop μ-loop
 same-length c = search needs
 
 returns : tie.Need-returns Inv-loop μ-loop
-unfolding reached
 returns c =
     let l = c .before in
-    let s = l .before .before .before .args .span in
-    l .loop .inv .1 ∙ rw (cut-all s (l .loop .w) (omega arith))
+    let end : l .loop .w ≡ l .before .words .result = omega arith in
+    rw (l .loop .inv .1, end, l .before .words .ensures, reached-words)
 
 pub mark-span-spec : {M : Type 1} → statement M
 mark-span-spec =
