@@ -7,7 +7,7 @@ use rdp::units::WordAddr;
 
 const NAME: usize = 32;
 
-const COLUMNS: usize = 24;
+const COLUMNS: usize = 26;
 
 const COLUMN: usize = 6;
 
@@ -31,7 +31,7 @@ fn digit(line: &[u8], i: usize) -> u32
 
 // The number of a column, in its last five places.
 pub(crate) fn number(line: &[u8], column: usize) -> u32
-    requires { ⌜ column < 24 ⌝ }
+    requires { ⌜ column < 26 ⌝ }
 {
     let at = NAME + 2 + COLUMN * column;
     10000 * digit(line, at)
@@ -44,7 +44,7 @@ pub(crate) fn number(line: &[u8], column: usize) -> u32
 // A length that a column asks for, as far as there is room. (The cases lend such a part as `[0..n]`: a part `[..n]` asks for a file
 // of proof.)
 pub(crate) fn part(line: &[u8], column: usize, room: usize) -> usize
-    requires { ⌜ column < 24 ⌝ }
+    requires { ⌜ column < 26 ⌝ }
     ensures { λ r. ⌜ r ≤ room ⌝ }
 {
     let asked = number(line, column) as usize;

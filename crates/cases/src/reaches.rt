@@ -1,6 +1,6 @@
-// Reach, has-load and the lane check: `r` a reach, `m` one in a map of another length, `w` has-load where one byte is written, `l` the
-// lane check. The output is the name; of a map, the refusal, how many bits are set, and its weight; and whether there is a load, by a
-// written record that has sixteen bytes for each of the map.
+// Reach, has-load, the question for a reason and the lane check: `r` a reach, `m` one in a map of another length, `w` has-load where one
+// byte is written, `q` the question, `l` the lane check. The output is the name; of a map, the refusal, how many bits are set, and its
+// weight; whether there is a load, by a written record that has sixteen bytes for each of the map; of a question, refusal and reason.
 ghost use Prim.Native.Nat.{_≤_};
 use crate::buffers;
 use crate::line;
@@ -9,11 +9,20 @@ use crate::show;
 use rdp::answer::YesAnswer;
 use rdp::tile::TileDescriptor;
 use reach::lane;
+use reach::rejection::rejection;
+use tmem::bank::Bank;
 
-// The own column of `m`, that of `w`, and those of `l`: the bytes of bank and map, and where the bank has another byte.
+// The own column of `m`, and that of `w`. Those of `q`: the bytes of the reasons, and where they have 1 and 255. Those of `l`: the bytes
+// of bank and map, and where the bank has another byte.
 const MAP: usize = OWN;
 
 const WRITTEN: usize = OWN;
+
+const REASONS: usize = OWN;
+
+const ONE: usize = OWN + 1;
+
+const LARGEST: usize = OWN + 2;
 
 const LANE_BANK: usize = OWN;
 
@@ -21,8 +30,10 @@ const LANE_MAP: usize = OWN + 1;
 
 const OTHER: usize = OWN + 2;
 
-// One byte more than a map has, and than a lane map.
+// One byte more than a map has, than reasons have, and than a lane map.
 const LONG_MAP: usize = 512 + 1;
+
+const LONG_REASONS: usize = Bank::REASONS_SIZE + 1;
 
 const LONG_LANE_MAP: usize = 32 + 1;
 
@@ -90,6 +101,17 @@ fn written_case(case: &[u8], tile: TileDescriptor, mode: u32) {
     loaded(tile, mode, &map);
 }
 
+// The first reason of a tile, where two addresses have one.
+fn question_case(case: &[u8], tile: TileDescriptor, mode: u32) {
+    let mut reasons = [0u8; LONG_REASONS];
+    buffers::put(&mut reasons, line::number(case, ONE) as usize, 1);
+    buffers::put(&mut reasons, line::number(case, LARGEST) as usize, 255);
+    let length = line::part(case, REASONS, LONG_REASONS);
+    let answer = rejection(tile, mode, &reasons[0..length]);
+    show::number(answer.refusal as u64);
+    show::number(answer.reason as u64);
+}
+
 // The lane map of a bank with one other byte.
 fn lanes(bank: &mut [u8], map: &mut [u8], at: usize) {
     buffers::put(bank, at, 8);
@@ -114,6 +136,7 @@ pub(crate) fn run(case: &[u8]) {
         b'r' => reach_case(tile, mode),
         b'm' => length_case(case, tile, mode),
         b'w' => written_case(case, tile, mode),
+        b'q' => question_case(case, tile, mode),
         _ => lane_case(case),
     }
     show::text(b"\n");

@@ -65,6 +65,7 @@ fn bytes_of(records: usize, input: &[u8]) -> usize
 fn replay_held(
     bank: &mut [u8],
     written: &mut [u8],
+    reasons: &mut [u8],
     rest: &[u8],
     file_end: u64,
     start: u64,
@@ -80,6 +81,7 @@ fn replay_held(
     let run = replay_run(
         bank,
         written,
+        reasons,
         rest,
         file_end,
         start,
@@ -200,6 +202,7 @@ fn replay_turn(
     file_end: u64,
     bank: &mut [u8],
     written: &mut [u8],
+    reasons: &mut [u8],
     records: &[u8],
     held: &mut [u8],
     text: &mut [u8],
@@ -217,6 +220,7 @@ fn replay_turn(
     let turn = replay_held(
         bank,
         written,
+        reasons,
         &records[at..],
         file_end,
         step.start,
@@ -243,6 +247,7 @@ fn replay_piece(
     file_end: u64,
     bank: &mut [u8],
     written: &mut [u8],
+    reasons: &mut [u8],
     records: &[u8],
     held: &mut [u8],
     text: &mut [u8],
@@ -257,7 +262,17 @@ fn replay_piece(
     let mut now = step;
     let mut turns = u64::MAX;
     while (now.at < records.len()) & now.more & (0 < turns) {
-        now = replay_turn(fd, file_end, bank, written, records, held, text, now);
+        now = replay_turn(
+            fd,
+            file_end,
+            bank,
+            written,
+            reasons,
+            records,
+            held,
+            text,
+            now,
+        );
         turns -= 1;
     }
     now
@@ -269,6 +284,7 @@ fn replay_all(
     file_end: u64,
     bank: &mut [u8],
     written: &mut [u8],
+    reasons: &mut [u8],
     records: &mut [u8],
     held: &mut [u8],
     text: &mut [u8],
@@ -296,6 +312,7 @@ fn replay_all(
             file_end,
             bank,
             written,
+            reasons,
             &records[..got],
             held,
             text,
@@ -330,7 +347,7 @@ fn say_unusable(path: &[u8]) {
 }
 
 // Replays with a companion file that is open. A file without a length, such as a pipe, or that cannot be read, such as a folder,
-// is none.
+// is none. A record has no reason, so the reasons stay zero.
 fn replay_with(fd: i32, path: &[u8]) {
     let file_end = libc::lseek(fd, 0, SEEK_END);
     if file_end < 0 {
@@ -345,6 +362,7 @@ fn replay_with(fd: i32, path: &[u8]) {
     let fresh = Bank::fresh();
     let mut bank = fresh.bytes;
     let mut written = [0u8; Bank::WRITTEN_SIZE];
+    let mut reasons = [0u8; Bank::REASONS_SIZE];
     let mut records = piece_buffer();
     let mut text = io::large_buffer();
     replay_all(
@@ -352,6 +370,7 @@ fn replay_with(fd: i32, path: &[u8]) {
         length_of(file_end),
         &mut bank,
         &mut written,
+        &mut reasons,
         &mut records,
         &mut held,
         &mut text,

@@ -6,6 +6,10 @@ use crate::record;
 use rdp::answer::Answer;
 use rdp::answer::LoadAnswer;
 use tmem::bank::Bank;
+use tmem::load::write_block_for_tile;
+use tmem::load::write_tile_for_tile;
+use tmem::load::write_tlut_for_tile;
+use tmem::reason::Reason;
 
 // The bank of a case.
 fn bank_of(r: &[u8]) -> [u8; Bank::SIZE]
@@ -31,13 +35,14 @@ fn answer_is(r: &[u8], answer: Answer, first: &[u8]) -> bool {
     record::answered(r, answer.refusal, answer.count) & first_is(r, first)
 }
 
-// A block, tile or TLUT load.
+// An ordinary block, tile or TLUT load.
 fn load(
     r: &[u8],
     kind: u32,
     bank: &mut [u8],
     written: &mut [u8],
-    source: &[u8],
+    reasons: &mut [u8],
+    src: &[u8],
     last: u32,
 ) -> LoadAnswer {
     let tile = record::tile(r);
@@ -45,10 +50,11 @@ fn load(
     let a = record::two(r, 20);
     let b = record::two(r, 22);
     let c = record::two(r, 24);
+    let why = Reason::Ordinary;
     match kind {
-        1 => tmem::load::write_block_for_tile(bank, written, source, tile, image, a, b, last),
-        2 => tmem::load::write_tile_for_tile(bank, written, source, tile, image, a, b, c, last),
-        _ => tmem::load::write_tlut_for_tile(bank, written, source, tile, image, a, b, c, last),
+        1 => write_block_for_tile(bank, written, reasons, src, tile, image, a, b, why, last),
+        2 => write_tile_for_tile(bank, written, reasons, src, tile, image, a, b, c, why, last),
+        _ => write_tlut_for_tile(bank, written, reasons, src, tile, image, a, b, c, why, last),
     }
 }
 
@@ -68,8 +74,9 @@ fn load_is(r: &[u8], kind: u32, source: &[u8]) -> bool {
     buffers::made(&mut marks, record::four(r, 30), 1);
     let mut written = [0u8; Bank::WRITTEN_SIZE];
     buffers::number_marked(&marks, &mut written);
+    let mut reasons = [0u8; Bank::REASONS_SIZE];
     let last = record::four(r, 30) % 65535;
-    let answer = load(r, kind, &mut bank, &mut written, source, last);
+    let answer = load(r, kind, &mut bank, &mut written, &mut reasons, source, last);
     buffers::mark_numbered(&written, &mut marks);
     record::answered(r, answer.refusal, answer.count)
         & (answer.made_up == record::four(r, 52))

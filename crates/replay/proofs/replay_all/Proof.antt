@@ -12,9 +12,10 @@ use Rattle.replay.proofs.replay_all.Statement.{statement}
 use Rattle.replay.proofs.replay_all.Tie as tie
 
 abbrev Inv-loop : tie.InvT-loop
-Inv-loop fd file-end bank₀ written₀ records₀ held₀ text₀ _ _ _ _ _ _ bank written records held text start size end more last turns =
+Inv-loop _ _ bank₀ written₀ reasons₀ records₀ held₀ text₀ _ _ _ _ _ _ bank written reasons records held text start size end _ _ turns =
     (length bank ≡ length bank₀)
     × (length written ≡ length written₀)
+    × (length reasons ≡ length reasons₀)
     × (length records ≡ length records₀)
     × (length held ≡ length held₀)
     × (length text ≡ length text₀)
@@ -22,17 +23,17 @@ Inv-loop fd file-end bank₀ written₀ records₀ held₀ text₀ _ _ _ _ _ _ b
     × (end + pieceRoom ≤ length text)
 
 abbrev μ-loop : tie.MeasureT-loop
-μ-loop fd file-end bank₀ written₀ records₀ held₀ text₀ _ _ _ _ _ _ bank written records held text start size end more last turns = turns
+μ-loop _ _ _ _ _ _ _ _ _ _ _ _ _ _ bank written reasons records held text start size end more last turns = turns
 
 -- in a turn there is a turn left
 left : (c : tie.In-loop Inv-loop μ-loop) → 0 < c .before .loop .turns
 left c = ltb-true _ _ (both (c .before .loop .more) _ (c .loop-test .taken) .1)
 
 abbrev turn : tie.After-replay-piece Inv-loop μ-loop → tie.In-loop Inv-loop μ-loop
-turn c = c .before .before .before .before .before .before .before .before .before .before
+turn c = c .before .before .before .before .before .before .before .before .before .before .before
 
 loop-holds : tie.Need-loop-holds Inv-loop μ-loop
-loop-holds c = (refl, refl, refl, refl, refl, omega arith, omega arith)
+loop-holds c = (refl, refl, refl, refl, refl, refl, omega arith, omega arith)
 
 read-full-requires : tie.Need-read-full-requires Inv-loop μ-loop
 read-full-requires c κs = search needs
@@ -47,10 +48,10 @@ replay-piece-requires : tie.Need-replay-piece-requires Inv-loop μ-loop
 replay-piece-requires c κs = search needs
 
 sub-turns : tie.Need-sub-turns Inv-loop μ-loop
-sub-turns c = omega (arith, left (turn (c .before .before .before .before .before .before .before .before .before)))
+sub-turns c = omega (arith, left (turn (c .before .before .before .before .before .before .before .before .before .before .before)))
 
 loop-less : tie.Need-loop-less Inv-loop μ-loop
-loop-less c = omega (arith, left (turn (c .before .before .before .before .before .before .before .before .before)))
+loop-less c = omega (arith, left (turn (c .before .before .before .before .before .before .before .before .before .before .before)))
 
 loop-again : tie.Need-loop-again Inv-loop μ-loop
 loop-again c = search needs
@@ -72,6 +73,9 @@ same-length-4 c = search needs
 
 same-length-5 : tie.Need-same-length-5 Inv-loop μ-loop
 same-length-5 c = search needs
+
+same-length-6 : tie.Need-same-length-6 Inv-loop μ-loop
+same-length-6 c = search needs
 
 returns : tie.Need-returns Inv-loop μ-loop
 returns c = search needs
@@ -96,4 +100,5 @@ replay-all-spec =
     same-length-3
     same-length-4
     same-length-5
+    same-length-6
     returns)

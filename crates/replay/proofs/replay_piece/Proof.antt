@@ -14,9 +14,10 @@ use Rattle.replay.proofs.replay_piece.Statement.{statement}
 use Rattle.replay.proofs.replay_piece.Tie as tie
 
 abbrev Inv-loop : tie.InvT-loop
-Inv-loop fd file-end bank₀ written₀ records held₀ text₀ now₀ turns₀ bank written held text now turns =
+Inv-loop fd file-end bank₀ written₀ reasons₀ records held₀ text₀ now₀ turns₀ bank written reasons held text now turns =
     (length bank ≡ length bank₀)
     × (length written ≡ length written₀)
+    × (length reasons ≡ length reasons₀)
     × (length held ≡ length held₀)
     × (length text ≡ length text₀)
     × (now .at ≤ length records)
@@ -24,25 +25,27 @@ Inv-loop fd file-end bank₀ written₀ records held₀ text₀ now₀ turns₀ 
     × (now .end + pieceRoom ≤ length text)
 
 abbrev μ-loop : tie.MeasureT-loop
-μ-loop fd file-end bank₀ written₀ records held₀ text₀ now₀ turns₀ bank written held text now turns = turns
+μ-loop fd file-end bank₀ written₀ reasons₀ records held₀ text₀ now₀ turns₀ bank written reasons held text now turns = turns
 
 -- in a turn there is a turn left
 left : (c : tie.Then1 Inv-loop μ-loop) → 0 < c .before .before .before .loop .turns
 left c =
     let l = c .before .before .before in
-    let records = l .before .before .before .before .before .before .args .records .now in
+    let records = l .before .before .before .before .before .before .before .args .records .now in
     ltb-true _ _ (both (ltb (l .loop .now .at) (length records) && l .loop .now .more) _ (c .if1 .taken) .1)
 
-abbrev turn : tie.After-slice-known8 Inv-loop μ-loop → tie.Then1 Inv-loop μ-loop
-turn c = c .before .before .before .before .before .before .before .before .before .before .before .before .before
+abbrev turn : tie.After-slice-known10 Inv-loop μ-loop → tie.Then1 Inv-loop μ-loop
+turn c = c .before .before .before .before .before .before .before .before .before .before .before .before .before .before .before .before
 
 loop-holds : tie.Need-loop-holds Inv-loop μ-loop
-loop-holds c = let s = c .before .before .before .before .before in (refl, refl, refl, refl, s .pre .0, s .pre .1 .0, s .pre .1 .1)
+loop-holds c =
+    let s = c .before .before .before .before .before .before in
+    (refl, refl, refl, refl, refl, s .pre .0, s .pre .1 .0, s .pre .1 .1)
 
 replay-turn-requires : tie.Need-replay-turn-requires Inv-loop μ-loop
 replay-turn-requires c κs =
-    let i = c .before .before .before .before .before .before .before .loop .inv in
-    (i .4, (i .5, i .6))
+    let i = c .before .before .before .before .before .before .before .before .loop .inv in
+    (i .5, (i .6, i .7))
 
 sub-turns : tie.Need-sub-turns Inv-loop μ-loop
 sub-turns c = omega (arith, left (turn c))
@@ -65,6 +68,9 @@ same-length-3 c = search needs
 same-length-4 : tie.Need-same-length-4 Inv-loop μ-loop
 same-length-4 c = search needs
 
+same-length-5 : tie.Need-same-length-5 Inv-loop μ-loop
+same-length-5 c = search needs
+
 returns : tie.Need-returns Inv-loop μ-loop
 returns c = search needs
 
@@ -83,4 +89,5 @@ replay-piece-spec =
     same-length-2
     same-length-3
     same-length-4
+    same-length-5
     returns)

@@ -22,23 +22,23 @@ slice-reshare-prefix-replay-held c = search needs
 
 slice-aggregate-replay-held : tie.Need-slice-aggregate-replay-held
 slice-aggregate-replay-held c =
-    let s = c .before .before .before .before .before .before .before .before .before in
+    let s = c .before .before .before .before .before .before .before .before .before .before .before in
     sym (length-take-le _ _ (s .pre .1 .0))
 
 replay-held-requires : tie.Need-replay-held-requires
 replay-held-requires c κs = search needs
 
-add-t18 : tie.Need-add-t18
-add-t18 c = search needs
+add-t21 : tie.Need-add-t21
+add-t21 c = search needs
 
 write-full-requires : tie.Need-write-full-requires
 write-full-requires c κs = search needs
 
 abbrev held : tie.After-write-full → tie.After-replay-held
-held w = w .before .before .before .before .before .before .before .before .before .before
+held w = w .before .before .before .before .before .before .before .before .before .before .before .before
 
 abbrev start : tie.After-write-full → tie.Start
-start w = held w .before .before .before .before .before .before .before .before .before .before .before
+start w = held w .before .before .before .before .before .before .before .before .before .before .before .before .before
 
 -- the records that were replayed are the input's, and the same bytes are held
 kept : (w : tie.After-write-full) → let a = start w .args in
@@ -64,13 +64,16 @@ same-length-3 c = search needs
 same-length-4 : tie.Need-same-length-4
 same-length-4 c = search needs
 
+same-length-5 : tie.Need-same-length-5
+same-length-5 c = search needs
+
 returns : tie.Need-returns
 returns c =
     let n = c .before .before in
     let w = n .before in
     let next = n .hold-next .ensures in (
       omega (arith, next .0, kept w .0),
-      (omega (arith, next .2), omega (arith, next .1, w .write-full .ensures .0, held w .replay-held .kept .1 .1 .1 .1 .1 .1 .0)),
+      (omega (arith, next .2), omega (arith, next .1, w .write-full .ensures .0, held w .replay-held .kept .1 .1 .1 .1 .1 .1 .1 .0)),
     )
 
 pub replay-turn-spec : {M : Type 1} → statement M
@@ -83,11 +86,12 @@ replay-turn-spec =
     slice-reshare-prefix-replay-held
     slice-aggregate-replay-held
     replay-held-requires
-    add-t18
+    add-t21
     write-full-requires
     hold-next-requires
     same-length
     same-length-2
     same-length-3
     same-length-4
+    same-length-5
     returns)

@@ -1,4 +1,4 @@
--- `cases::loads::eight` reads eight bytes that the bank has. Assumes nothing.
+-- `cases::loads::eight` reads eight bytes that are there. Assumes nothing.
 use Prim.Native.Nat.{_+_, _-_, _≤_}
 use native.Mathlib.Omega.{arith}
 use borrow.Author.Needs.{needs}
@@ -6,10 +6,10 @@ use Rattle.cases.proofs.loads.eight.Statement.{statement}
 use Rattle.cases.proofs.loads.eight.Tie as tie
 
 abbrev Inv-loop : tie.InvT-loop
-Inv-loop bank from k₀ k = k ≤ 8
+Inv-loop bytes from k₀ k = k ≤ 8
 
 abbrev μ-loop : tie.MeasureT-loop
-μ-loop bank from k₀ k = 8 - k
+μ-loop bytes from k₀ k = 8 - k
 
 returns : tie.Need-returns Inv-loop μ-loop
 returns c = search needs
