@@ -63,10 +63,10 @@ fn named(bytes: &[u8], part: &[u8]) -> usize
     if size < part.len() { size } else { part.len() }
 }
 
-// One record over a lent bank, written map and reasons, after a load of the number `last`. The companion file has `end` bytes, and `part` holds
-// those from the record's offset on, of which exactly the stated ones are read. It answers the count of its stores, or for a key of its
-// kept bytes, and the last number after it; or its refusal (1, 8, 10, 2, 3, 4, 11, 5, 18) with the number passed, and the buffers as they
-// were lent. Its load is an ordinary one.
+// One record over a lent bank, written map and reasons, after a load of the number `last`. The companion file has `end` bytes, and
+// `part` holds those from the record's offset on, of which exactly the stated ones are read. It answers the count of its stores, or for a
+// key of its kept bytes, and the last number after it; or its refusal (1, 8, 10, 2, 3, 4, 11, 5, 18) with the number passed, and the
+// buffers as they were lent. Its load is an ordinary one.
 pub fn replay_record(
     bank: &mut [u8],
     written: &mut [u8],

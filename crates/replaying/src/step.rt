@@ -112,7 +112,8 @@ pub(crate) fn replay_step(
     requires { ⌜ AllLent (now bank) (now written) (now reasons) ⌝ }
     requires { ⌜ length (now src) ≤ sizeIn (now bytes) ⌝ }
     ensures { λ r. ⌜ replayAnswered r (now (bank .exit) ∷ now (written .exit) ∷ now (reasons .exit) ∷ [])
-        ≡ outcome end (now (src .entry)) (now (bytes .entry)) (carried (now (bank .entry)) (now (written .entry)) (now (reasons .entry)) last) ⌝ }
+        ≡ outcome end (now (src .entry)) (now (bytes .entry))
+        (carried (now (bank .entry)) (now (written .entry)) (now (reasons .entry)) last) ⌝ }
 {
     let no = step_refusal(bytes, end, last);
     if no != 0 {

@@ -78,8 +78,8 @@ numberSpent last = ltb 65534 last
 abbrev pub badReason : Reason → Test
 badReason why = 19 if reasonOutside why
 
--- Loads, ordinary and rejected: bank, written map and reasons are lent. The tests of a load's numbers, for a source of `size` bytes, stand before those that a caller
--- may add.
+-- Loads, ordinary and rejected: bank, written map and reasons are lent. The tests of a load's numbers, for a source of `size` bytes, stand
+-- before those that a caller may add.
 abbrev pub numberTests : ℕ → Tile → ℕ → Bool → List Test → List Test
 numberTests size t image outside l = (2 if loadFieldsOutside t) ∷ (4 if sourceOutside size image) ∷ (4 if outside) ∷ l
 

@@ -1,6 +1,6 @@
 -- "Banks and texels worked by hand": P1 to P12 in one table, with the fourth slip, the lister's example, a wall that repeats, a replay,
--- what loads make up, their numbers and their reasons beside them. "Fields not named are 0, the bank is fresh." `Rattle.rules.proofs.Worked` proves
--- every row.
+-- what loads make up, their numbers and their reasons beside them. "Fields not named are 0, the bank is fresh."
+-- `Rattle.rules.proofs.Worked` proves every row.
 use mathlib.Core.Bool.{Bool, true}
 use mathlib.Core.List.{List, [], _∷_, _++_, map}
 use Prim.Native.Nat.{ℕ, _+_, _-_}

@@ -165,8 +165,8 @@ pub fn write_block_for_tile(
     last: u32,
 ) -> LoadAnswer
     ensures { λ r. ⌜ loadAnswered r (now (bank .exit) ∷ now (written .exit) ∷ now (reasons .exit) ∷ [])
-        ≡ blockCall (now (bank .entry)) (now (written .entry)) (now (reasons .entry)) (now (src .entry)) (tileOf tile) «image_siz» dxt «word_count»
-        (reasonOf reason) last ⌝ }
+        ≡ blockCall (now (bank .entry)) (now (written .entry)) (now (reasons .entry)) (now (src .entry))
+        (tileOf tile) «image_siz» dxt «word_count» (reasonOf reason) last ⌝ }
 {
     let asked = Asked::Block {
         dxt: dxt as usize,
@@ -236,8 +236,8 @@ pub fn write_tlut_for_tile(
     last: u32,
 ) -> LoadAnswer
     ensures { λ r. ⌜ loadAnswered r (now (bank .exit) ∷ now (written .exit) ∷ now (reasons .exit) ∷ [])
-        ≡ tlutCall (now (bank .entry)) (now (written .entry)) (now (reasons .entry)) (now (src .entry)) (tileOf tile) «image_siz» count rows stride
-        (reasonOf reason) last ⌝ }
+        ≡ tlutCall (now (bank .entry)) (now (written .entry)) (now (reasons .entry)) (now (src .entry))
+        (tileOf tile) «image_siz» count rows stride (reasonOf reason) last ⌝ }
 {
     let asked = Asked::Tlut {
         count: count as usize,

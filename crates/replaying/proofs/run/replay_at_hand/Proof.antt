@@ -12,7 +12,8 @@ use Rattle.replaying.proofs.run.replay_at_hand.Statement.{statement}
 use Rattle.replaying.proofs.run.replay_at_hand.Tie as tie
 
 -- the record takes its part, which is in the piece
-takes : (e : tie.Else1) → let a = e .before .before .before .before .before .before .before .args in takesPart (a .end) (a .bytes .now) ≡ true
+takes : (e : tie.Else1) → let a = e .before .before .before .before .before .before .before .args in
+    takesPart (a .end) (a .bytes .now) ≡ true
 takes e = sym (e .before .takes-part .ensures) ∙ not-false _ (e .if1 .left)
 
 within : (e : tie.Else1) → let a = e .before .before .before .before .before .before .before .args in
@@ -95,7 +96,8 @@ returns-2 c =
     let from = ap (λ n. n - a .start) (o .offset-in .ensures .0) in
     let to = ap (λ n. (o .offset-in .result - a .start) + n) (z .size-in .ensures .0) in
     d .replay-step2 .ensures
-    ∙ part-taken (a .end) (a .start) (a .held .now) (a .bytes .now) (carried (a .bank .now) (a .written .now) (a .reasons .now) (a .last)) _ _
+    ∙ part-taken (a .end) (a .start) (a .held .now) (a .bytes .now)
+    (carried (a .bank .now) (a .written .now) (a .reasons .now) (a .last)) _ _
     (takes (o .before)) from to
 
 pub replay-at-hand-spec : {M : Type 1} → statement M

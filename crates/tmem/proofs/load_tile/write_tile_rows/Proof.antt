@@ -10,7 +10,8 @@ use Rattle.tmem.proofs.load_tile.write_tile_rows.Tie as tie
 
 abbrev Inv-loop : tie.InvT-loop
 Inv-loop bank₀ written₀ reasons₀ src tile image-siz rows words stride label tally₀ row₀ bank written reasons tally row =
-    Counting rows (tileRow (loadOf tile) image-siz words stride) src label (memory bank₀ written₀ reasons₀) row (memory bank written reasons) tally
+    Counting rows (tileRow (loadOf tile) image-siz words stride) src label (memory bank₀ written₀ reasons₀) row
+    (memory bank written reasons) tally
 
 abbrev μ-loop : tie.MeasureT-loop
 μ-loop bank₀ written₀ reasons₀ src tile image-siz rows words stride label tally₀ row₀ bank written reasons tally row = rows - row

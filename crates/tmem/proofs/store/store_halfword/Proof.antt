@@ -1,4 +1,5 @@
--- `tmem::store::store_halfword` carries out its two stores: two bytes of the bank, and number and reason at their addresses. Assumes nothing.
+-- `tmem::store::store_halfword` carries out its two stores: two bytes of the bank, and number and reason at their addresses.
+-- Assumes nothing.
 use borrow.Author.Needs.{needs}
 use mathlib.Core.Path.{refl}
 use native.Mathlib.Omega.{arith}

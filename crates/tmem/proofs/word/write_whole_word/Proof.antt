@@ -10,7 +10,8 @@ use Rattle.tmem.proofs.word.write_whole_word.Tie as tie
 
 abbrev Inv-loop : tie.InvT-loop
 Inv-loop bank₀ written₀ reasons₀ word first odd label k₀ bank written reasons k =
-    Turn 4 (wholeTurn (list4 (first .0) odd) (upper (first .0)) odd) (bytesIn word) label (memory bank₀ written₀ reasons₀) k (memory bank written reasons)
+    Turn 4 (wholeTurn (list4 (first .0) odd) (upper (first .0)) odd) (bytesIn word) label (memory bank₀ written₀ reasons₀) k
+    (memory bank written reasons)
 
 abbrev μ-loop : tie.MeasureT-loop
 μ-loop bank₀ written₀ reasons₀ word first odd label k₀ bank written reasons k = 4 - k

@@ -44,7 +44,9 @@ plus-requires c κs =
     (omega (arith, few .0), omega (arith, few .1))
 
 add-word : tie.Need-add-word Inv-loop μ-loop
-add-word c = let d = c .before .before .before .before .before .before .before in omega (arith, word-below (d .before .before .before .before .before))
+add-word c =
+    let d = c .before .before .before .before .before .before .before in
+    omega (arith, word-below (d .before .before .before .before .before))
 
 loop-less : tie.Need-loop-less Inv-loop μ-loop
 loop-less c = omega arith
