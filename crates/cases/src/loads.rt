@@ -6,10 +6,10 @@ use crate::line;
 use crate::line::OWN;
 use crate::show;
 use rdp::answer::LoadAnswer;
+use tmem::asked::Asked;
 use tmem::bank::Bank;
 use tmem::load::write_block_for_tile;
 use tmem::load::write_tile_for_tile;
-use tmem::load::write_tlut_for_tile;
 use tmem::reason::Reason;
 
 // The call's own columns. A and B are a block's dxt and words, a tile's rows and words a row, a lookup table's count and rows. The
@@ -68,7 +68,10 @@ fn load(
     match line::letter(case) {
         b'b' | b'B' => write_block_for_tile(bank, map, reasons, src, tile, size, a, b, why, last),
         b't' | b'T' => write_tile_for_tile(bank, map, reasons, src, tile, size, a, b, c, why, last),
-        _ => write_tlut_for_tile(bank, map, reasons, src, tile, size, a, b, c, why, last),
+        _ => {
+            let table = Asked::tlut(size, a as usize, b as usize, c as usize);
+            tmem::load::load(bank, map, reasons, src, tile, size, table, why, last)
+        }
     }
 }
 

@@ -15,14 +15,14 @@ use Rattle.tmem.specs.Part.{memory, labelOf, CarriedOut}
 use Rattle.tmem.specs.declared.asked.Asked.{Asked}
 
 module _ (bank map reasons src : List ℕ) (t : Tile) (image : ℕ) (asked : Asked) (last : ℕ) (w : AllLent bank map reasons)
-    (passed : first (numberTests (length src) t image (askedOutside asked) []) ≡ 0) (left : last ≤ 65534) where
+    (passed : first (numberTests (length src) t image (askedOutside image asked) []) ≡ 0) (left : last ≤ 65534) where
   tests : List Test
-  tests = loadTests bank map reasons src t image (askedOutside asked) ordinary last
+  tests = loadTests bank map reasons src t image (askedOutside image asked) ordinary last
 
   none : first tests ≡ 0
   unfolding first tests
   none =
-      let own = numberTests (length src) t image (askedOutside asked) in
+      let own = numberTests (length src) t image (askedOutside image asked) in
       let rest = badReason ordinary ∷ (18 if numberSpent last) ∷ [] in
       all-lent bank map reasons (own rest) w
       ∙ first-after (own []) rest (numbered (own []) refl) passed

@@ -75,9 +75,9 @@ pub(crate) fn size_in(bytes: &[u8]) -> u64
     four_at(bytes, LENGTH_AT) as u64
 }
 
-// What its load is asked for.
+// What its load is asked for; a lookup table is loaded by the hardware or by rows, as document 01's rule picks.
 pub(crate) fn asked_in(bytes: &[u8]) -> Asked
-    ensures { λ r. ⌜ askedOutside r ≡ outsideIn (now (bytes .entry)) ⌝ }
+    ensures { λ r. ⌜ askedOutside (imageIn (now (bytes .entry))) r ≡ outsideIn (now (bytes .entry)) ⌝ }
     ensures { λ r. ⌜ askedStores (loadTile (tileIn (now (bytes .entry)))) (imageIn (now (bytes .entry))) r
         ≡ storesIn (now (bytes .entry)) ⌝ }
 {
@@ -97,9 +97,5 @@ pub(crate) fn asked_in(bytes: &[u8]) -> Asked
         };
     }
     let count = two_at(bytes, 26) as usize;
-    Asked::Tlut {
-        count,
-        rows,
-        stride,
-    }
+    Asked::tlut(image_in(bytes), count, rows, stride)
 }

@@ -17,6 +17,7 @@ pub mod Formats
 pub mod Refused
 pub mod LentTests
 pub mod Ranges
+pub mod Pick
 pub mod Allowed
 pub mod Visible
 pub mod Records

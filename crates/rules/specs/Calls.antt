@@ -11,7 +11,7 @@ use Rattle.rules.specs.Tile.{Tile, bankSize, mapSize, writtenSize, reaso
 use Rattle.rules.specs.Tile.{loadFieldsOutside, tileOutside, modeOutside, laneOutside}
 use Rattle.rules.specs.Texdec.{accepted, stepKnows}
 use Rattle.rules.specs.Sampling.{flag, extentWidth, extentHeight, lookupTexels}
-use Rattle.rules.specs.Load.{Store, loadTile, blockStores, tileStores, tlutStores, stored, written, following, madeUp}
+use Rattle.rules.specs.Load.{Store, loadTile, blockStores, tileStores, hardwareStores, rowStores, stored, written, following, madeUp}
 use Rattle.rules.specs.Load.{Reason, reasonOutside, reasonLeft, reasoned}
 use Rattle.rules.specs.Reading.{Reading, given, trail, encoded}
 use Rattle.rules.specs.Picture.{plain, lookup}
@@ -50,6 +50,10 @@ tileLoadOutside rows words stride = ltb 1024 rows || ltb 512 words || ltb 65535 
 
 abbrev pub tlutOutside : ℕ → ℕ → ℕ → Bool
 tlutOutside count rows stride = ltb 1024 count || eqb rows 0 || ltb 1024 rows || ltb 65535 stride
+
+-- document 02's item 9: "The hardware call takes rows 1 and image sizes 1 to 3"; "4 covers the narrower ranges of the hardware call"
+abbrev pub hardwareOutside : ℕ → ℕ → ℕ → ℕ → Bool
+hardwareOutside image count rows stride = eqb image 0 || ltb 1024 count || not (eqb rows 1) || ltb 65535 stride
 
 -- "the pair is not accepted (pictures, lookups, keys)"
 abbrev pub badPair : Tile → ℕ → Test
@@ -111,10 +115,17 @@ tileCall bank map reasons src t image rows words stride why last =
     loaded (loadTests bank map reasons src t image (tileLoadOutside rows words stride) why last)
     (tileStores (loadTile t) image rows words stride) bank map reasons src why last
 
-unfoldable pub tlutCall : List ℕ → List ℕ → List ℕ → List ℕ → Tile → ℕ → ℕ → ℕ → ℕ → Reason → ℕ → Outcome
-tlutCall bank map reasons src t image count rows stride why last =
+-- "the hardware path, and the defined extension for several rows or image size 0. .. Make them two public calls"
+unfoldable pub tlutHardwareCall : List ℕ → List ℕ → List ℕ → List ℕ → Tile → ℕ → ℕ → ℕ → ℕ → Reason → ℕ → Outcome
+tlutHardwareCall bank map reasons src t image count rows stride why last =
+    loaded (loadTests bank map reasons src t image (hardwareOutside image count rows stride) why last)
+    (hardwareStores (loadTile t) image count) bank map reasons src why last
+
+-- "the row call takes any size and rows in the old range"
+unfoldable pub tlutRowsCall : List ℕ → List ℕ → List ℕ → List ℕ → Tile → ℕ → ℕ → ℕ → ℕ → Reason → ℕ → Outcome
+tlutRowsCall bank map reasons src t image count rows stride why last =
     loaded (loadTests bank map reasons src t image (tlutOutside count rows stride) why last)
-    (tlutStores (loadTile t) image count rows stride) bank map reasons src why last
+    (rowStores (loadTile t) count rows stride) bank map reasons src why last
 
 -- The sampling record: flag and allocation extent.
 abbrev pub samplingTests : Tile → ℕ → List Test

@@ -151,10 +151,12 @@ entryRow t count stride r = concat (tab count (entryStores t stride r))
 unfoldable pub rowStores : LoadTile → ℕ → ℕ → ℕ → List Store
 rowStores t count rows stride = concat (tab rows (entryRow t count stride))
 
--- "TLUT with rows 1 and image size above 0: .. Otherwise .."
+-- "TLUT with rows 1 and image size above 0: .. Otherwise ..": a table is loaded by the hardware's path, or by rows
+abbrev pub byHardware : ℕ → ℕ → Bool
+byHardware image rows = eqb rows 1 && ltb 0 image
+
 unfoldable pub tlutStores : LoadTile → ℕ → ℕ → ℕ → ℕ → List Store
-tlutStores t image count rows stride =
-    cond (eqb rows 1 && ltb 0 image) (hardwareStores t image count) (rowStores t count rows stride)
+tlutStores t image count rows stride = cond (byHardware image rows) (hardwareStores t image count) (rowStores t count rows stride)
 
 -- the bank after the stores, one after the other; "it is read as zero past its end", the source
 unfoldable pub stored : List ℕ → List Store → List ℕ → List ℕ

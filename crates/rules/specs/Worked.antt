@@ -13,7 +13,7 @@ use Rattle.rules.specs.Texdec.{rgba16Texel, ia4Texel, ia8Texel}
 use Rattle.rules.specs.Sampling.{flag}
 use Rattle.rules.specs.Load.{Store, loadTile, stored, blockStores, tlutStores, Reason, ordinary, rejected, madeUp}
 use Rattle.rules.specs.Reach.{hasLoad, paletteOrder, rejection}
-use Rattle.rules.specs.Calls.{blockCall}
+use Rattle.rules.specs.Calls.{blockCall, tlutHardwareCall, tlutRowsCall}
 use Rattle.rules.specs.Picture.{picture, texel}
 use Rattle.rules.specs.Key.{key, keptCount}
 use Rattle.rules.specs.Lister.{listing}
@@ -199,6 +199,15 @@ twoRows = tile 4 1 1 0 8 2
 abbrev thirdPalette : Tile
 thirdPalette = tileFrom 2 0 3 0 0 0 0 1 0 1 1
 
+-- Document 02's item 9. Two entries of a table from four bytes, by the hardware's call and by the row call.
+abbrev byHardwareCall : ℕ → ℕ → Outcome
+byHardwareCall image rows =
+    tlutHardwareCall fresh freshWritten freshReasons (counting 4) (tile 0 0 0 256 0 0) image 2 rows 0 ordinary 0
+
+abbrev byRowsCall : ℕ → ℕ → Outcome
+byRowsCall image rows =
+    tlutRowsCall fresh freshWritten freshReasons (counting 4) (tile 0 0 0 256 0 0) image 2 rows 0 ordinary 0
+
 -- a list's length, its first and its last number
 abbrev endsOf : List ℕ → List ℕ
 endsOf l = length l ∷ getD l 0 0 ∷ getD l (length l - 1) 0 ∷ []
@@ -301,6 +310,14 @@ table =
     -- "the 128 bytes of the tile's palette for siz 0, else the upper half"
     ∷ (asking thirdPalette 2 2560 2431 ∷ asking thirdPalette 2 2559 2432 ∷ asking thirdPalette 2 2559 2560 ∷ [] gives 0 ∷ 6 ∷ 5 ∷ [])
     ∷ (endsOf (paletteOrder ci8One 3) gives 2048 ∷ 2048 ∷ 4095 ∷ [])
+    -- at image size 1 a step of the hardware covers eight entries; the row call stores each, at rows 1 too
+    ∷ (answers (byHardwareCall 1 1) gives 0 ∷ 8 ∷ 0 ∷ 1 ∷ [])
+    ∷ (answers (byRowsCall 1 1) gives 0 ∷ 16 ∷ 0 ∷ 1 ∷ [])
+    -- "The hardware call takes rows 1 and image sizes 1 to 3; the row call takes any size and rows in the old range"
+    ∷ (map (λ rows. byHardwareCall 2 rows .refusal) (0 ∷ 1 ∷ 2 ∷ []) gives 4 ∷ 0 ∷ 4 ∷ [])
+    ∷ (map (λ image. byHardwareCall image 1 .refusal) (0 ∷ 1 ∷ 3 ∷ 4 ∷ []) gives 4 ∷ 0 ∷ 0 ∷ 4 ∷ [])
+    ∷ (map (λ rows. byRowsCall 2 rows .refusal) (0 ∷ 1 ∷ 2 ∷ 1025 ∷ []) gives 4 ∷ 0 ∷ 0 ∷ 4 ∷ [])
+    ∷ (map (λ image. byRowsCall image 1 .refusal) (0 ∷ 3 ∷ 4 ∷ []) gives 0 ∷ 0 ∷ 4 ∷ [])
     ∷ []
 
 -- the two lists of every case are the same

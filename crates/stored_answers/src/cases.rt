@@ -5,10 +5,10 @@ use crate::buffers;
 use crate::record;
 use rdp::answer::Answer;
 use rdp::answer::LoadAnswer;
+use tmem::asked::Asked;
 use tmem::bank::Bank;
 use tmem::load::write_block_for_tile;
 use tmem::load::write_tile_for_tile;
-use tmem::load::write_tlut_for_tile;
 use tmem::reason::Reason;
 
 // The bank of a case.
@@ -54,7 +54,10 @@ fn load(
     match kind {
         1 => write_block_for_tile(bank, written, reasons, src, tile, image, a, b, why, last),
         2 => write_tile_for_tile(bank, written, reasons, src, tile, image, a, b, c, why, last),
-        _ => write_tlut_for_tile(bank, written, reasons, src, tile, image, a, b, c, why, last),
+        _ => {
+            let table = Asked::tlut(image, a as usize, b as usize, c as usize);
+            tmem::load::load(bank, written, reasons, src, tile, image, table, why, last)
+        }
     }
 }
 

@@ -10,4 +10,5 @@ pub mod EightBytes
 pub mod Rows
 pub mod Runs
 pub mod Within
+pub mod Picked
 pub mod One

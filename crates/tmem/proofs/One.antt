@@ -4,6 +4,7 @@ use mathlib.Core.List.{[], _∷_}
 use denote.Ref.{now}
 use Rattle.rules.proofs.Refused.{determined}
 use Rattle.rdp.proofs.Determined.{load-determined}
+use Rattle.tmem.proofs.asked.Asked.tlut.Reads as tlut
 use Rattle.tmem.proofs.bank.Bank.fresh.Reads as fresh
 use Rattle.tmem.proofs.bank.Bank.entry_addr.Reads as entry-addr
 use Rattle.tmem.proofs.load.is_spent.Reads as is-spent
@@ -12,7 +13,11 @@ use Rattle.tmem.proofs.load.load.Reads as load
 use Rattle.tmem.proofs.load.number_refusal.Reads as number-refusal
 use Rattle.tmem.proofs.load.write_block_for_tile.Reads as write-block-for-tile
 use Rattle.tmem.proofs.load.write_tile_for_tile.Reads as write-tile-for-tile
-use Rattle.tmem.proofs.load.write_tlut_for_tile.Reads as write-tlut-for-tile
+use Rattle.tmem.proofs.load.write_tlut_hardware_for_tile.Reads as write-tlut-hardware-for-tile
+use Rattle.tmem.proofs.load.write_tlut_rows_for_tile.Reads as write-tlut-rows-for-tile
+
+pub tlut-one : (w : _) (a : _) (r s : _) (e f : _) → tlut.Post w a r e → tlut.Post w a s f → r ≡ s
+tlut-one w a r s e f p q = determined p q
 
 pub fresh-one : (w : _) (a : _) (r s : _) (e f : _) → fresh.Post w a r e → fresh.Post w a s f → r ≡ s
 fresh-one w a r s e f p q = λ i. record { bytes = determined p q i }
@@ -41,6 +46,10 @@ pub write-tile-for-tile-one : (w : _) (a : _) (r s : _) (e f : _) → write-tile
     → (r ≡ s) × (now (e .0) ∷ now (e .1 .0) ∷ now (e .1 .1 .0) ∷ [] ≡ now (f .0) ∷ now (f .1 .0) ∷ now (f .1 .1 .0) ∷ [])
 write-tile-for-tile-one w a r s e f p q = load-determined _ r s _ _ p q
 
-pub write-tlut-for-tile-one : (w : _) (a : _) (r s : _) (e f : _) → write-tlut-for-tile.Post w a r e → write-tlut-for-tile.Post w a s f
+pub write-tlut-hardware-for-tile-one : (w : _) (a : _) (r s : _) (e f : _) → write-tlut-hardware-for-tile.Post w a r e → write-tlut-hardware-for-tile.Post w a s f
     → (r ≡ s) × (now (e .0) ∷ now (e .1 .0) ∷ now (e .1 .1 .0) ∷ [] ≡ now (f .0) ∷ now (f .1 .0) ∷ now (f .1 .1 .0) ∷ [])
-write-tlut-for-tile-one w a r s e f p q = load-determined _ r s _ _ p q
+write-tlut-hardware-for-tile-one w a r s e f p q = load-determined _ r s _ _ p q
+
+pub write-tlut-rows-for-tile-one : (w : _) (a : _) (r s : _) (e f : _) → write-tlut-rows-for-tile.Post w a r e → write-tlut-rows-for-tile.Post w a s f
+    → (r ≡ s) × (now (e .0) ∷ now (e .1 .0) ∷ now (e .1 .1 .0) ∷ [] ≡ now (f .0) ∷ now (f .1 .0) ∷ now (f .1 .1 .0) ∷ [])
+write-tlut-rows-for-tile-one w a r s e f p q = load-determined _ r s _ _ p q

@@ -1,16 +1,15 @@
--- Runs of words: bounds of a word's numbers, and the rules' lists of a block, a tile's row and a hardware TLUT as runs; which of a TLUT's
--- lists is taken.
+-- Runs of words: bounds of a word's numbers, and the rules' lists of a block, a tile's row and a hardware TLUT as runs.
 use mathlib.Core.Path.{_≡_, ap}
 use mathlib.Core.List.{List}
-use mathlib.Core.Bool.{false, Bool, true, cond, _&&_}
+use mathlib.Core.Bool.{false, Bool, true, cond}
 use Prim.Native.Nat.{ℕ, _+_, _*_, _<_, _≤_, _/_, _^_}
 use native.Mathlib.Nat.{mul-le-mul, zero-add, add-zero, mul-zero, mul-comm, div-le-self, div-le-of-le-mul}
 use native.Mathlib.Omega.{arith}
 use lib.ListN.{length}
-use lib.Dec.{eqb, ltb, leb, leb→le}
+use lib.Dec.{eqb, leb, leb→le}
 use Rattle.rules.specs.Base.{tab, concat}
 use Rattle.rules.specs.Load.{Store, LoadTile, imageTile, blockStores, tileRow}
-use Rattle.rules.specs.Load.{entries, advance, steps, hardwareStores, rowStores, tlutStores}
+use Rattle.rules.specs.Load.{entries, advance, steps, hardwareStores}
 use Rattle.rules.proofs.Computed.{computed}
 use Rattle.tmem.specs.declared.words.Run.{Run}
 use Rattle.tmem.specs.Run.{Paced, imageRun, runStores}
@@ -92,14 +91,3 @@ steps-within image count h k =
     let e = entries image in
     let p : 1 ≤ e = step-covers image h in
     div-le-of-le-mul e (omega arith)
-
--- "TLUT with rows 1 and image size above 0: .. Otherwise .."
-pub hardware-is : (t : LoadTile) (image count rows stride : ℕ) → (eqb rows 1 && ltb 0 image) ≡ true
-    → tlutStores t image count rows stride ≡ hardwareStores t image count
-unfolding tlutStores
-hardware-is t image count rows stride e = rw e
-
-pub rows-are : (t : LoadTile) (image count rows stride : ℕ) → (eqb rows 1 && ltb 0 image) ≡ false
-    → tlutStores t image count rows stride ≡ rowStores t count rows stride
-unfolding tlutStores
-rows-are t image count rows stride e = rw e

@@ -10,7 +10,7 @@ use borrow.Author.Tests.{ltb-false}
 use Rattle.rules.specs.Tile.{Tile}
 use Rattle.rules.specs.Load.{Store, following, Reason, reasonOutside, reasonLeft}
 use Rattle.rules.specs.Refusal.{Test, _if_, first}
-use Rattle.rules.specs.Calls.{numberSpent, badReason, numberTests, loadTests, loaded, blockOutside, tileLoadOutside, tlutOutside}
+use Rattle.rules.specs.Calls.{numberSpent, badReason, numberTests, loadTests, loaded, blockOutside, tileLoadOutside, tlutOutside, hardwareOutside}
 use Rattle.rules.proofs.Ranges.{neither}
 use Rattle.rules.proofs.Refused.{Passed, numbered, passed, done-or-is}
 use Rattle.rules.proofs.LentTests.{lent-passed}
@@ -72,3 +72,6 @@ tlut-in count rows stride h =
     let q = neither _ _ (p .0) in
     let r = neither _ _ (q .0) in
     (ltb-false _ _ (r .0), (ltb-false _ _ (q .1), ltb-false _ _ (p .1)))
+
+pub hardware-in : (image count rows stride : ℕ) → hardwareOutside image count rows stride ≡ false → count ≤ 1024
+hardware-in image count rows stride h = ltb-false _ _ (neither _ _ (neither _ _ (neither _ _ h .0) .0) .1)

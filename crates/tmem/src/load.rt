@@ -2,7 +2,8 @@
 ghost use mathlib.Core.Path.{_≡_};
 ghost use mathlib.Core.List.{[], _∷_};
 ghost use Rattle.rules.specs.Refusal.{first};
-ghost use Rattle.rules.specs.Calls.{lentTests, numberSpent, numberTests, loadTests, blockCall, tileCall, tlutCall};
+ghost use Rattle.rules.specs.Calls.{lentTests, numberSpent, numberTests, loadTests};
+ghost use Rattle.rules.specs.Calls.{blockCall, tileCall, tlutHardwareCall, tlutRowsCall};
 ghost use Rattle.rdp.specs.View.{tileOf, loadAnswered};
 ghost use Rattle.tmem.specs.Asked.{askedOutside, askedCall, refusedLoad};
 ghost use Rattle.tmem.specs.Reasons.{reasonOf};
@@ -24,7 +25,7 @@ const LAST_LIMIT: u32 = 65534;
 
 // The first refusal of a load's numbers, for a source of `size` bytes: 2, then 4. 0 is none.
 pub fn number_refusal(size: usize, tile: TileDescriptor, image_siz: u32, asked: Asked) -> u32
-    ensures { λ r. ⌜ r ≡ first (numberTests size (tileOf tile) «image_siz» (askedOutside asked) []) ⌝ }
+    ensures { λ r. ⌜ r ≡ first (numberTests size (tileOf tile) «image_siz» (askedOutside «image_siz» asked) []) ⌝ }
 {
     if tile.load_fields_outside() {
         return refusal::TILE;
@@ -32,7 +33,11 @@ pub fn number_refusal(size: usize, tile: TileDescriptor, image_siz: u32, asked: 
     if (SOURCE_LIMIT < size) | (3 < image_siz) {
         return refusal::LOAD;
     }
-    if asked.outside() { refusal::LOAD } else { 0 }
+    if asked.outside(image_siz) {
+        refusal::LOAD
+    } else {
+        0
+    }
 }
 
 // No number is left after the last one given.
@@ -72,7 +77,7 @@ fn load_refusal(
     last: u32,
 ) -> u32
     ensures { λ r. ⌜ r ≡ first (loadTests (now (bank .entry)) (now (written .entry)) (now (reasons .entry)) (now (src .entry))
-        (tileOf tile) «image_siz» (askedOutside asked) (reasonOf reason) last) ⌝ }
+        (tileOf tile) «image_siz» (askedOutside «image_siz» asked) (reasonOf reason) last) ⌝ }
 {
     let lent = lent_refusal(bank, written, reasons);
     if lent != 0 {
@@ -221,8 +226,8 @@ pub fn write_tile_for_tile(
     )
 }
 
-// A lookup table of `count` entries a row.
-pub fn write_tlut_for_tile(
+// A lookup table of `count` entries, by the hardware's load: rows 1, and an image of size 1 to 3.
+pub fn write_tlut_hardware_for_tile(
     bank: &mut [u8],
     written: &mut [u8],
     reasons: &mut [u8],
@@ -236,10 +241,46 @@ pub fn write_tlut_for_tile(
     last: u32,
 ) -> LoadAnswer
     ensures { λ r. ⌜ loadAnswered r (now (bank .exit) ∷ now (written .exit) ∷ now (reasons .exit) ∷ [])
-        ≡ tlutCall (now (bank .entry)) (now (written .entry)) (now (reasons .entry)) (now (src .entry))
+        ≡ tlutHardwareCall (now (bank .entry)) (now (written .entry)) (now (reasons .entry)) (now (src .entry))
         (tileOf tile) «image_siz» count rows stride (reasonOf reason) last ⌝ }
 {
-    let asked = Asked::Tlut {
+    let by_hardware = Asked::TlutHardware {
+        count: count as usize,
+        rows: rows as usize,
+        stride: stride as usize,
+    };
+    load(
+        bank,
+        written,
+        reasons,
+        src,
+        tile,
+        image_siz,
+        asked,
+        reason,
+        last,
+    )
+}
+
+// A lookup table of `count` entries a row, row by row: the defined extension for several rows or an image of size 0.
+pub fn write_tlut_rows_for_tile(
+    bank: &mut [u8],
+    written: &mut [u8],
+    reasons: &mut [u8],
+    src: &[u8],
+    tile: TileDescriptor,
+    image_siz: u32,
+    count: u32,
+    rows: u32,
+    stride: u32,
+    reason: Reason,
+    last: u32,
+) -> LoadAnswer
+    ensures { λ r. ⌜ loadAnswered r (now (bank .exit) ∷ now (written .exit) ∷ now (reasons .exit) ∷ [])
+        ≡ tlutRowsCall (now (bank .entry)) (now (written .entry)) (now (reasons .entry)) (now (src .entry))
+        (tileOf tile) «image_siz» count rows stride (reasonOf reason) last ⌝ }
+{
+    let by_rows = Asked::TlutRows {
         count: count as usize,
         rows: rows as usize,
         stride: stride as usize,

@@ -1,9 +1,8 @@
-// TLUT loads: the hardware's, which replicates a pair of bytes over a word's lanes, and rows of entries.
+// The hardware's load of a lookup table, which replicates a pair of bytes over a word's lanes.
 ghost use mathlib.Core.Path.{_≡_};
 ghost use Prim.Native.Nat.{_≤_};
-ghost use Rattle.rules.specs.Load.{entries, advance, steps, hardwareStores, tlutStores};
+ghost use Rattle.rules.specs.Load.{entries, advance, steps, hardwareStores};
 ghost use Rattle.tmem.specs.Part.{loadOf, memory, Lent, Counted};
-use crate::entries::write_tlut_rows;
 use crate::label::Label;
 use crate::place::LoadTile;
 use crate::tally::Tally;
@@ -40,7 +39,7 @@ fn tlut_advance(image_siz: u32) -> usize
 }
 
 // The hardware's load, a word for each step; it answers its tally of stores.
-fn write_tlut_words(
+pub(crate) fn write_tlut_words(
     bank: &mut [u8],
     written: &mut [u8],
     reasons: &mut [u8],
@@ -69,42 +68,4 @@ fn write_tlut_words(
     };
     let steps = tlut_steps(image_siz, count);
     write_words(bank, written, reasons, src, tile, run, steps, label)
-}
-
-// A lookup table: the hardware's load for one row of an image above size 0, rows of entries otherwise.
-pub(crate) fn write_tlut(
-    bank: &mut [u8],
-    written: &mut [u8],
-    reasons: &mut [u8],
-    src: &[u8],
-    tile: LoadTile,
-    image_siz: u32,
-    count: usize,
-    rows: usize,
-    stride: usize,
-    label: Label,
-) -> Tally
-    requires { ⌜ Lent (memory (now bank) (now written) (now reasons)) label ⌝ }
-    requires { ⌜ «image_siz» ≤ 3 ⌝ }
-    requires { ⌜ count ≤ 1024 ⌝ }
-    requires { ⌜ rows ≤ 1024 ⌝ }
-    requires { ⌜ stride ≤ 65535 ⌝ }
-    ensures { λ r. ⌜ Counted (now (src .entry)) (tlutStores (loadOf tile) «image_siz» count rows stride) label
-        (memory (now (bank .entry)) (now (written .entry)) (now (reasons .entry)))
-        (memory (now (bank .exit)) (now (written .exit)) (now (reasons .exit))) r ⌝ }
-{
-    if (rows == 1) & (0 < image_siz) {
-        return write_tlut_words(bank, written, reasons, src, tile, image_siz, count, label);
-    }
-    write_tlut_rows(
-        bank,
-        written,
-        reasons,
-        src,
-        tile,
-        count,
-        rows,
-        stride,
-        label,
-    )
 }

@@ -9,7 +9,8 @@ use Rattle.tulonkasa.proofs.files.tk_read_pam.Reads as tk-read-pam
 use Rattle.tulonkasa.proofs.keys.tk_key.Reads as tk-key
 use Rattle.tulonkasa.proofs.loads.tk_load_block.Reads as tk-load-block
 use Rattle.tulonkasa.proofs.loads.tk_load_tile.Reads as tk-load-tile
-use Rattle.tulonkasa.proofs.loads.tk_load_tlut.Reads as tk-load-tlut
+use Rattle.tulonkasa.proofs.loads.tk_load_tlut_hardware.Reads as tk-load-tlut-hardware
+use Rattle.tulonkasa.proofs.loads.tk_load_tlut_rows.Reads as tk-load-tlut-rows
 use Rattle.tulonkasa.proofs.maps.tk_reach.Reads as tk-reach
 use Rattle.tulonkasa.proofs.maps.tk_tile_has_load.Reads as tk-tile-has-load
 use Rattle.tulonkasa.proofs.maps.tk_rejection.Reads as tk-rejection
@@ -20,7 +21,8 @@ use Rattle.tulonkasa.proofs.pictures.tk_sampling_lookup.Reads as tk-sam
 use Rattle.tulonkasa.proofs.pictures.tk_sampling_lookup_observed.Reads as tk-sampling-lookup-observed
 use Rattle.tulonkasa.proofs.rejects.tk_reject_block.Reads as tk-reject-block
 use Rattle.tulonkasa.proofs.rejects.tk_reject_tile.Reads as tk-reject-tile
-use Rattle.tulonkasa.proofs.rejects.tk_reject_tlut.Reads as tk-reject-tlut
+use Rattle.tulonkasa.proofs.rejects.tk_reject_tlut_hardware.Reads as tk-reject-tlut-hardware
+use Rattle.tulonkasa.proofs.rejects.tk_reject_tlut_rows.Reads as tk-reject-tlut-rows
 use Rattle.tulonkasa.proofs.replay.tk_replay_record.Reads as tk-replay-record
 use Rattle.tulonkasa.proofs.sampling.tk_sampling.Reads as tk-sampling
 use Rattle.tulonkasa.proofs.splits.tk_split.Reads as tk-split
@@ -45,9 +47,13 @@ pub tk-load-tile-one : (w : _) (a : _) (r s : _) (e f : _) → tk-load-tile.Post
     → (r ≡ s) × (now (e .0) ∷ now (e .1 .0) ∷ now (e .1 .1 .0) ∷ [] ≡ now (f .0) ∷ now (f .1 .0) ∷ now (f .1 .1 .0) ∷ [])
 tk-load-tile-one w a r s e f p q = load-determined _ r s _ _ p q
 
-pub tk-load-tlut-one : (w : _) (a : _) (r s : _) (e f : _) → tk-load-tlut.Post w a r e → tk-load-tlut.Post w a s f
+pub tk-load-tlut-hardware-one : (w : _) (a : _) (r s : _) (e f : _) → tk-load-tlut-hardware.Post w a r e → tk-load-tlut-hardware.Post w a s f
     → (r ≡ s) × (now (e .0) ∷ now (e .1 .0) ∷ now (e .1 .1 .0) ∷ [] ≡ now (f .0) ∷ now (f .1 .0) ∷ now (f .1 .1 .0) ∷ [])
-tk-load-tlut-one w a r s e f p q = load-determined _ r s _ _ p q
+tk-load-tlut-hardware-one w a r s e f p q = load-determined _ r s _ _ p q
+
+pub tk-load-tlut-rows-one : (w : _) (a : _) (r s : _) (e f : _) → tk-load-tlut-rows.Post w a r e → tk-load-tlut-rows.Post w a s f
+    → (r ≡ s) × (now (e .0) ∷ now (e .1 .0) ∷ now (e .1 .1 .0) ∷ [] ≡ now (f .0) ∷ now (f .1 .0) ∷ now (f .1 .1 .0) ∷ [])
+tk-load-tlut-rows-one w a r s e f p q = load-determined _ r s _ _ p q
 
 pub tk-reach-one : (w : _) (a : _) (r s : _) (e f : _) → tk-reach.Post w a r e → tk-reach.Post w a s f
     → (r ≡ s) × (now (e .1 .1 .1 .1 .1 .1 .1 .1 .1 .1 .1 .1 .0) ∷ [] ≡ now (f .1 .1 .1 .1 .1 .1 .1 .1 .1 .1 .1 .1 .0) ∷ [])
@@ -97,9 +103,13 @@ pub tk-reject-tile-one : (w : _) (a : _) (r s : _) (e f : _) → tk-reject-tile.
     → (r ≡ s) × (now (e .0) ∷ now (e .1 .0) ∷ now (e .1 .1 .0) ∷ [] ≡ now (f .0) ∷ now (f .1 .0) ∷ now (f .1 .1 .0) ∷ [])
 tk-reject-tile-one w a r s e f p q = load-determined _ r s _ _ p q
 
-pub tk-reject-tlut-one : (w : _) (a : _) (r s : _) (e f : _) → tk-reject-tlut.Post w a r e → tk-reject-tlut.Post w a s f
+pub tk-reject-tlut-hardware-one : (w : _) (a : _) (r s : _) (e f : _) → tk-reject-tlut-hardware.Post w a r e → tk-reject-tlut-hardware.Post w a s f
     → (r ≡ s) × (now (e .0) ∷ now (e .1 .0) ∷ now (e .1 .1 .0) ∷ [] ≡ now (f .0) ∷ now (f .1 .0) ∷ now (f .1 .1 .0) ∷ [])
-tk-reject-tlut-one w a r s e f p q = load-determined _ r s _ _ p q
+tk-reject-tlut-hardware-one w a r s e f p q = load-determined _ r s _ _ p q
+
+pub tk-reject-tlut-rows-one : (w : _) (a : _) (r s : _) (e f : _) → tk-reject-tlut-rows.Post w a r e → tk-reject-tlut-rows.Post w a s f
+    → (r ≡ s) × (now (e .0) ∷ now (e .1 .0) ∷ now (e .1 .1 .0) ∷ [] ≡ now (f .0) ∷ now (f .1 .0) ∷ now (f .1 .1 .0) ∷ [])
+tk-reject-tlut-rows-one w a r s e f p q = load-determined _ r s _ _ p q
 
 pub tk-replay-record-one : (w : _) (a : _) (r s : _) (e f : _) → tk-replay-record.Post w a r e → tk-replay-record.Post w a s f
     → (r ≡ s) × (now (e .0) ∷ now (e .1 .0) ∷ now (e .1 .1 .0) ∷ [] ≡ now (f .0) ∷ now (f .1 .0) ∷ now (f .1 .1 .0) ∷ [])

@@ -1,7 +1,7 @@
-// The ordinary loads: block, tile and lookup table. Each clears the reasons where it stores.
+// The ordinary loads: block, tile, and lookup table by the hardware or by rows. Each clears the reasons where it stores.
 ghost use mathlib.Core.Path.{_≡_};
 ghost use mathlib.Core.List.{[], _∷_};
-ghost use Rattle.rules.specs.Calls.{blockCall, tileCall, tlutCall};
+ghost use Rattle.rules.specs.Calls.{blockCall, tileCall, tlutHardwareCall, tlutRowsCall};
 ghost use Rattle.rules.specs.Load.{ordinary};
 ghost use Rattle.rdp.specs.View.{loadAnswered};
 ghost use Rattle.rules.specs.Tile.{loadTileFrom};
@@ -82,9 +82,9 @@ pub extern "C" fn tk_load_tile(
     )
 }
 
-// A TLUT load.
+// A TLUT load by the hardware: rows 1, and an image of size 1 to 3.
 #[no_mangle]
-pub extern "C" fn tk_load_tlut(
+pub extern "C" fn tk_load_tlut_hardware(
     bank: &mut [u8],
     written: &mut [u8],
     reasons: &mut [u8],
@@ -100,11 +100,11 @@ pub extern "C" fn tk_load_tlut(
     last: u32,
 ) -> LoadAnswer
     ensures { λ r. ⌜ loadAnswered r (now (bank .exit) ∷ now (written .exit) ∷ now (reasons .exit) ∷ [])
-        ≡ tlutCall (now (bank .entry)) (now (written .entry)) (now (reasons .entry)) (now (source .entry))
+        ≡ tlutHardwareCall (now (bank .entry)) (now (written .entry)) (now (reasons .entry)) (now (source .entry))
         (loadTileFrom fmt siz line «tmem_addr») «image_siz» count rows stride ordinary last ⌝ }
 {
     let tile = load_tile_from(fmt, siz, line, tmem_addr);
-    tmem::load::write_tlut_for_tile(
+    tmem::load::write_tlut_hardware_for_tile(
         bank,
         written,
         reasons,
@@ -112,6 +112,43 @@ pub extern "C" fn tk_load_tlut(
         tile,
         image_siz,
         count,
+        rows,
+        stride,
+        Reason::Ordinary,
+        last,
+    )
+}
+
+// A TLUT load row by row: the defined extension for several rows or an image of size 0.
+#[no_mangle]
+pub extern "C" fn tk_load_tlut_rows(
+    bank: &mut [u8],
+    written: &mut [u8],
+    reasons: &mut [u8],
+    source: &[u8],
+    fmt: u32,
+    siz: u32,
+    line: u32,
+    tmem_addr: u32,
+    image_siz: u32,
+    row_entries: u32,
+    rows: u32,
+    stride: u32,
+    last: u32,
+) -> LoadAnswer
+    ensures { λ r. ⌜ loadAnswered r (now (bank .exit) ∷ now (written .exit) ∷ now (reasons .exit) ∷ [])
+        ≡ tlutRowsCall (now (bank .entry)) (now (written .entry)) (now (reasons .entry)) (now (source .entry))
+        (loadTileFrom fmt siz line «tmem_addr») «image_siz» «row_entries» rows stride ordinary last ⌝ }
+{
+    let tile = load_tile_from(fmt, siz, line, tmem_addr);
+    tmem::load::write_tlut_rows_for_tile(
+        bank,
+        written,
+        reasons,
+        source,
+        tile,
+        image_siz,
+        row_entries,
         rows,
         stride,
         Reason::Ordinary,

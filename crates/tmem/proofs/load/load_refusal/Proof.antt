@@ -17,7 +17,7 @@ abbrev lent : tie.Start → List Test
 lent s = lentTests (s .args .bank .now) (s .args .written .now) (s .args .reasons .now) []
 
 abbrev own : tie.Start → List Test → List Test
-own s l = let a = s .args in numberTests (length (a .src .now)) (tileOf (a .tile)) (a .image-siz) (askedOutside (a .asked)) l
+own s l = let a = s .args in numberTests (length (a .src .now)) (tileOf (a .tile)) (a .image-siz) (askedOutside (a .image-siz) (a .asked)) l
 
 abbrev rest : tie.Start → List Test
 rest s = badReason (reasonOf (s .args .reason)) ∷ (18 if numberSpent (s .args .last)) ∷ []

@@ -1,8 +1,8 @@
--- `tmem::load::write_tlut_for_tile` is the load of a table. Assumes nothing.
+-- `tmem::load::write_tlut_rows_for_tile` is the load of a table by rows. Assumes nothing.
 use borrow.Author.Needs.{needs}
-use Rattle.rules.specs.Calls.{tlutCall}
-use Rattle.tmem.proofs.load.write_tlut_for_tile.Statement.{statement}
-use Rattle.tmem.proofs.load.write_tlut_for_tile.Tie as tie
+use Rattle.rules.specs.Calls.{tlutRowsCall}
+use Rattle.tmem.proofs.load.write_tlut_rows_for_tile.Statement.{statement}
+use Rattle.tmem.proofs.load.write_tlut_rows_for_tile.Tie as tie
 
 load-requires : tie.Need-load-requires
 load-requires c κs = search needs
@@ -17,11 +17,11 @@ same-length-3 : tie.Need-same-length-3
 same-length-3 c = search needs
 
 returns : tie.Need-returns
-unfolding tlutCall
+unfolding tlutRowsCall
 returns c = c .before .before .before .before .before .before .load .ensures
 
-pub write-tlut-for-tile-spec : {M : Type 1} → statement M
-write-tlut-for-tile-spec = tie.close (tie.spec
+pub write-tlut-rows-for-tile-spec : {M : Type 1} → statement M
+write-tlut-rows-for-tile-spec = tie.close (tie.spec
     load-requires
     same-length
     same-length-2
