@@ -1,26 +1,24 @@
--- The first refusal: an early one, or what the tests of the buffers and of the unknown pair say.
+-- The first refusal: an early one, or what the tests of the buffers say.
 use mathlib.Core.Path.{_≡_, refl, sym, _∙_}
-use mathlib.Core.Bool.{Bool, true, false, cond, not, _&&_}
+use mathlib.Core.Bool.{Bool, true, false, cond, _&&_}
 use mathlib.Core.List.{List, [], _∷_, _++_}
 use Prim.Native.Nat.{ℕ, _*_, _/_}
-use lib.Dec.{eqb, ltb}
+use lib.Dec.{ltb}
 use lib.ListN.{length}
 use Rattle.rules.specs.Reading.{trail}
 use Rattle.rules.specs.Tile.{Tile}
-use Rattle.rules.specs.Texdec.{stepKnows}
 use Rattle.rules.specs.Picture.{readsEach}
 use Rattle.rules.specs.Refusal.{Test, first}
-use Rattle.rules.specs.Calls.{shortPicture, shortTrail, unknownPair}
+use Rattle.rules.specs.Calls.{shortPicture, shortTrail}
 use Rattle.rules.proofs.Refused.{numbered, first-before, first-after}
-use Rattle.decoder.proofs.Lengths.{reads-none}
 use Rattle.decoder.proofs.Counted.{reads-count}
 use Rattle.decoder.specs.Asked.{readingBy, texelsBy, earlyTests, testsBy}
 
--- the tests of the buffers, and of the unknown pair
+-- the tests of the buffers
 late : Bool → Bool → List ℕ → Tile → ℕ → ℕ → List ℕ → List ℕ → List Test
 late true looked bank t mode lane out seen =
-    shortPicture (texelsBy looked t) out ∷ shortTrail (readingBy looked t mode lane) bank seen ∷ unknownPair t mode ∷ []
-late false looked bank t mode lane out seen = shortPicture (texelsBy looked t) out ∷ unknownPair t mode ∷ []
+    shortPicture (texelsBy looked t) out ∷ shortTrail (readingBy looked t mode lane) bank seen ∷ []
+late false looked bank t mode lane out seen = shortPicture (texelsBy looked t) out ∷ []
 
 module _ (observe looked : Bool) (bank : List ℕ) (t : Tile) (mode lane : ℕ) (out seen : List ℕ) where
   whole : testsBy observe looked bank t mode lane out seen ≡ earlyTests bank t mode lane ++ late observe looked bank t mode lane out seen
@@ -32,15 +30,14 @@ module _ (observe looked : Bool) (bank : List ℕ) (t : Tile) (mode lane : ℕ) 
       go false = refl
 
   late-first : (texels each : ℕ) → texels ≡ texelsBy looked t → each ≡ readsEach t mode
-      → cond (ltb (length out) (4 * texels)) 6 (cond (observe && ltb (length seen / 2) (each * texels)) 7 (cond (eqb each 0) 9 0))
+      → cond (ltb (length out) (4 * texels)) 6 (cond (observe && ltb (length seen / 2) (each * texels)) 7 0)
       ≡ first (late observe looked bank t mode lane out seen)
   unfolding late first
-  late-first texels each et ee = rw (ee, et, ← reads-count looked t mode lane bank, reads-none t mode) (go observe)
+  late-first texels each et ee = rw (ee, et, ← reads-count looked t mode lane bank) (go observe)
     where
       go : (b : Bool)
           → cond (ltb (length out) (4 * texelsBy looked t)) 6
-          (cond (b && ltb (length seen / 2) (length (trail (readingBy looked t mode lane) bank))) 7
-          (cond (not (stepKnows mode (t .fmt) (t .siz))) 9 0))
+          (cond (b && ltb (length seen / 2) (length (trail (readingBy looked t mode lane) bank))) 7 0)
           ≡ first (late b looked bank t mode lane out seen)
       go true = refl
       go false = refl
@@ -52,7 +49,7 @@ module _ (observe looked : Bool) (bank : List ℕ) (t : Tile) (mode lane : ℕ) 
 
   -- where there is none, the tests of the buffers decide
   pub refusal-late : (texels each : ℕ) → first (earlyTests bank t mode lane) ≡ 0 → texels ≡ texelsBy looked t → each ≡ readsEach t mode
-      → cond (ltb (length out) (4 * texels)) 6 (cond (observe && ltb (length seen / 2) (each * texels)) 7 (cond (eqb each 0) 9 0))
+      → cond (ltb (length out) (4 * texels)) 6 (cond (observe && ltb (length seen / 2) (each * texels)) 7 0)
       ≡ first (testsBy observe looked bank t mode lane out seen)
   refusal-late texels each e et ee =
       rw whole (late-first texels each et ee

@@ -17,6 +17,7 @@ use Rattle.rules.proofs.Refused.{Passed, numbered, passed}
 use Rattle.rdp.specs.View.{tileOf}
 use Rattle.rdp.specs.declared.tile.TileDescriptor.{TileDescriptor}
 use Rattle.rules.proofs.Ranges.{in-range}
+use Rattle.rules.proofs.Formats.{accepted-known}
 use Rattle.decoder.specs.Steps.{kindOf}
 use Rattle.decoder.specs.Tables.{TexelTable}
 use Rattle.decoder.specs.Rows.{trailStep, Ready}
@@ -67,7 +68,7 @@ allowed true looked bank t mode lane out seen h =
     let told : readsEach t mode * texelsBy looked t ≤ length seen / 2 = rw (reads-count looked t mode lane bank) at reads in
     record {
       early = early-of bank t lane (p .0) (p .1 .0) (p .1 .1 .1 .0);
-      knows = not-false _ (late .1 .1 .0);
+      knows = accepted-known mode (t .fmt) (t .siz) (not-false _ (p .1 .1 .1 .1 .0));
       room = picture-room looked t 4 (length out) (ltb-false _ _ (late .0));
       trail-room = picture-room looked t (2 * readsEach t mode) (length seen) (rw mul-assoc (omega arith));
     }
@@ -76,7 +77,7 @@ allowed false looked bank t mode lane out seen h =
     let late = p .1 .1 .1 .1 .1 in
     record {
       early = early-of bank t lane (p .0) (p .1 .0) (p .1 .1 .1 .0);
-      knows = not-false _ (late .1 .0);
+      knows = accepted-known mode (t .fmt) (t .siz) (not-false _ (p .1 .1 .1 .1 .0));
       room = picture-room looked t 4 (length out) (ltb-false _ _ (late .0));
       trail-room = picture-room looked t 0 (length seen) (rw zero-mul (omega arith));
     }

@@ -44,7 +44,7 @@ planBy tile mode lane looked observe each =
 
 -- the tests before the buffers'
 abbrev pub earlyTests : List ℕ → Tile → ℕ → ℕ → List Test
-earlyTests bank t mode lane = (1 if notBytes bankSize bank) ∷ pairTests t mode lane []
+earlyTests bank t mode lane = (1 if notBytes bankSize bank) ∷ pairTests t mode lane
 
 -- the call's tests
 abbrev pub testsBy : Bool → Bool → List ℕ → Tile → ℕ → ℕ → List ℕ → List ℕ → List Test

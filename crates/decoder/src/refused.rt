@@ -42,11 +42,10 @@ pub(crate) fn first_refusal(
     }
     let texels = texel_count(tile, lookup);
     let each = tile_reads(tile, tlut_fmt);
-    let no = refuse(refusal::UNKNOWN, each == 0, 0);
     let no = refuse(
         refusal::TRAIL,
         observe & (seen.len() / 2 < each * texels),
-        no,
+        0,
     );
     refuse(refusal::BUFFER, out.len() < 4 * texels, no)
 }

@@ -22,7 +22,7 @@ use tile_sampling::sampling::TileSampling;
 use tile_sampling::visible::visible;
 use tmem::bank::Bank;
 
-// The first refusal of the call's inputs. An accepted pair is always known to the texel step, so 9 is never given.
+// The first refusal of the call's inputs.
 fn key_refusal(bank: &[u8], tile: TileDescriptor, tlut: u32, lane: u32, out: &[u8]) -> u32
     ensures { λ r. ⌜ r ≡ first (keyTests (now (bank .entry)) (tileOf tile) tlut lane (now (out .entry))) ⌝ }
 {
@@ -39,7 +39,7 @@ fn key_refusal(bank: &[u8], tile: TileDescriptor, tlut: u32, lane: u32, out: &[u
 fn note_picture(bank: &[u8], notes: &mut [u8], tile: TileDescriptor, tlut: u32, lane: u32)
     requires { ⌜ length (now bank) ≡ bankSize ⌝ }
     requires { ⌜ now notes ≡ noNotes ⌝ }
-    requires { ⌜ first (pairTests (tileOf tile) tlut lane []) ≡ 0 ⌝ }
+    requires { ⌜ first (pairTests (tileOf tile) tlut lane) ≡ 0 ⌝ }
     ensures { λ _. ⌜ Notes (now (notes .exit)) (trail (visiblePicture (tileOf tile) tlut lane) (now (bank .entry))) ⌝ }
 {
     let sampling = TileSampling::from_tile(tile, tlut);
@@ -54,7 +54,7 @@ fn note_picture(bank: &[u8], notes: &mut [u8], tile: TileDescriptor, tlut: u32, 
 // The key of that picture, and its kept count.
 fn cut_picture(bank: &[u8], tile: TileDescriptor, tlut: u32, lane: u32, out: &mut [u8]) -> u32
     requires { ⌜ (length (now bank) ≡ bankSize) × (length (now out) ≡ bankSize) ⌝ }
-    requires { ⌜ first (pairTests (tileOf tile) tlut lane []) ≡ 0 ⌝ }
+    requires { ⌜ first (pairTests (tileOf tile) tlut lane) ≡ 0 ⌝ }
     ensures { λ r. ⌜ (now (out .exit) ≡ key (tileOf tile) tlut lane (now (bank .entry)))
         × (r ≡ keptCount (tileOf tile) tlut lane (now (bank .entry))) ⌝ }
 {
@@ -63,7 +63,7 @@ fn cut_picture(bank: &[u8], tile: TileDescriptor, tlut: u32, lane: u32, out: &mu
     cut(bank, &notes, out)
 }
 
-// The key of a picture, with the count of kept bytes; or the refusal (1, 2, 3, 5, 9), and `out` as it was lent.
+// The key of a picture, with the count of kept bytes; or the refusal (1, 2, 3, 5), and `out` as it was lent.
 pub fn key(bank: &[u8], tile: TileDescriptor, tlut: u32, lane: u32, out: &mut [u8]) -> Answer
     ensures { λ r. ⌜ answered r (now (out .exit) ∷ []) ≡ keyCall (now (bank .entry)) (tileOf tile) tlut lane (now (out .entry)) ⌝ }
 {

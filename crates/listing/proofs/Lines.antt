@@ -8,17 +8,17 @@ use mir.Val.{boolByte}
 use Rattle.rules.specs.Tile.{Tile, bankSize}
 use Rattle.rules.specs.Refusal.{first}
 use Rattle.rules.specs.Sampling.{flag, lookupTexels, texels}
-use Rattle.rules.specs.Calls.{pairTests, unknownPair, keyCall}
+use Rattle.rules.specs.Calls.{pairTests, keyCall}
 use Rattle.rules.specs.Key.{keptCount}
 use Rattle.rules.specs.Lister.{lineOf}
 use Rattle.rules.proofs.Refused.{refused-is, done-is, one-byte}
-use Rattle.rules.proofs.Allowed.{Allowed, allowed, never-nine}
+use Rattle.rules.proofs.Allowed.{Allowed, allowed}
 use Rattle.key.proofs.Called.{called-refusal, called-count}
 
 module _ (bank : List ℕ) (t : Tile) (mode : ℕ) (out : List ℕ) (whole : length bank ≡ bankSize) (room : length out ≡ bankSize) where
   module _ (refusal count : ℕ) (left : List ℕ)
       (answer : record { refusal = refusal; numbers = count ∷ []; buffers = left ∷ [] } ≡ keyCall bank t mode 0 out) where
-    is-first : refusal ≡ first (pairTests t mode 0 (unknownPair t mode ∷ []))
+    is-first : refusal ≡ first (pairTests t mode 0)
     is-first = called-refusal bank t mode 0 out whole room refusal count left answer
 
     is-count : refusal ≡ 0 → count ≡ keptCount t mode 0 bank
@@ -26,7 +26,7 @@ module _ (bank : List ℕ) (t : Tile) (mode : ℕ) (out : List ℕ) (whole : len
 
     -- a line that is not refused is of a tile in range
     pub line-allowed : refusal ≡ 0 → Allowed t mode 0
-    line-allowed z = allowed t mode 0 (never-nine t mode 0 ∙ sym is-first ∙ z)
+    line-allowed z = allowed t mode 0 (sym is-first ∙ z)
 
     pub line-refused : (refusal ≡ 0 → ⊥) → record { refusal = refusal; numbers = 0 ∷ 0 ∷ 0 ∷ []; buffers = [] } ≡ lineOf t mode bank
     unfolding lineOf

@@ -26,8 +26,7 @@ pub const TRAIL: u32 = 7;
 // The input of the lister or of the replay ends inside a record.
 pub const TORN: u32 = 8;
 
-// The texel step meets a pair it does not know.
-pub const UNKNOWN: u32 = 9;
+// 9 was the number of a test that no input could fail, that of a pair unknown to the texel step. It is not given out again.
 
 // The kind of a replay's record is unknown.
 pub const KIND: u32 = 10;

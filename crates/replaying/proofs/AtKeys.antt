@@ -14,7 +14,7 @@ use Rattle.rules.specs.Picture.{visiblePicture}
 use Rattle.rules.specs.Key.{key, keptCount, flipped, Bytes}
 use Rattle.rules.specs.Refusal.{first}
 use Rattle.rules.specs.Replay.{laneIn, tileIn, modeIn, asksKey, recordTests, Carried, fresh, inFile, lineIn, onward, replayed}
-use Rattle.rules.proofs.Allowed.{Allowed, allowed, never-nine}
+use Rattle.rules.proofs.Allowed.{Allowed, allowed}
 use Rattle.rules.proofs.Maps.{Below}
 use Rattle.rules.proofs.Replay.{Sound, fresh-sound, stands, refusal-of, key-keeps as nothing-changes, key-line}
 use Rattle.rules.proofs.ReplayTests.{step-passed, key-passes}
@@ -47,7 +47,7 @@ module _ (file : List ℕ) (bytes : Bytes file) (before : List (List ℕ)) (r : 
     none = step-passed (length file) r (here .last) (sym (refusal-of (length file) _ r here) ∙ done) .0
 
     is-allowed : Allowed tile mode lane
-    is-allowed = allowed tile mode lane (never-nine tile mode lane ∙ key-passes (length file) r none asks)
+    is-allowed = allowed tile mode lane (key-passes (length file) r none asks)
 
     pub line-is : lineIn (inFile file r here) ≡ 0 ∷ keptCount tile mode lane (here .bank) ∷ []
     unfolding inFile

@@ -3,7 +3,7 @@ ghost use mathlib.Core.Path.{_≡_};
 ghost use mathlib.Core.List.{[], _∷_};
 ghost use Prim.Native.Nat.{_≤_};
 ghost use lib.ListN.{length};
-ghost use Rattle.rules.specs.Calls.{numberTests, pairTests, unknownPair};
+ghost use Rattle.rules.specs.Calls.{numberTests, pairTests};
 ghost use Rattle.rules.specs.Refusal.{first};
 ghost use Rattle.rules.specs.Replay.{replaySize, laneIn, tileIn, modeIn, imageIn, sizeIn, outsideIn, beyond, recordTests, spent};
 use crate::fields::asked_in;
@@ -24,8 +24,7 @@ use tmem::load::number_refusal;
 // Of a key: 2, 3, 5.
 fn key_refusal(bytes: &[u8]) -> u32
     requires { ⌜ replaySize ≤ length (now bytes) ⌝ }
-    ensures { λ r. ⌜ r ≡ first (pairTests (tileIn (now (bytes .entry))) (modeIn (now (bytes .entry))) (laneIn (now (bytes .entry)))
-        (unknownPair (tileIn (now (bytes .entry))) (modeIn (now (bytes .entry))) ∷ [])) ⌝ }
+    ensures { λ r. ⌜ r ≡ first (pairTests (tileIn (now (bytes .entry))) (modeIn (now (bytes .entry))) (laneIn (now (bytes .entry)))) ⌝ }
 {
     pair_refusal(tile_in(bytes), mode_in(bytes), lane_in(bytes))
 }

@@ -4,7 +4,7 @@ ghost use mathlib.Core.List.{[], _∷_};
 ghost use Prim.Native.Nat.{_≤_};
 ghost use lib.ListN.{length};
 ghost use Rattle.rules.specs.Tile.{bankSize};
-ghost use Rattle.rules.specs.Calls.{AllLent, numberTests, pairTests, unknownPair};
+ghost use Rattle.rules.specs.Calls.{AllLent, numberTests, pairTests};
 ghost use Rattle.rules.specs.Key.{keptCount};
 ghost use Rattle.rules.specs.Load.{following, ordinary, reasonLeft};
 ghost use Rattle.rules.specs.Refusal.{first};
@@ -31,8 +31,7 @@ use tmem::reason::Reason;
 fn kept_count(bank: &[u8], bytes: &[u8]) -> u32
     requires { ⌜ length (now bank) ≡ bankSize ⌝ }
     requires { ⌜ replaySize ≤ length (now bytes) ⌝ }
-    requires { ⌜ first (pairTests (tileIn (now bytes)) (modeIn (now bytes)) (laneIn (now bytes))
-        (unknownPair (tileIn (now bytes)) (modeIn (now bytes)) ∷ [])) ≡ 0 ⌝ }
+    requires { ⌜ first (pairTests (tileIn (now bytes)) (modeIn (now bytes)) (laneIn (now bytes))) ≡ 0 ⌝ }
     ensures { λ r. ⌜ r ≡ keptCount (tileIn (now (bytes .entry))) (modeIn (now (bytes .entry))) (laneIn (now (bytes .entry)))
         (now (bank .entry)) ⌝ }
 {

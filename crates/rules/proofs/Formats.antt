@@ -1,4 +1,4 @@
--- A pair that is accepted is known to the texel step, in all four modes; and what a texel of a known pair reads and gives.
+-- A pair that is accepted is known to the texel step; and what a texel of a known pair reads and gives.
 use mathlib.Core.Path.{_≡_, refl, ap, sym, _∙_}
 use mathlib.Core.Bool.{Bool, true, false, cond, _&&_, _||_, true≢false}
 use mathlib.Core.List.{List, [], _∷_}
@@ -52,6 +52,7 @@ pub accepted-direct : (mode fmt siz : ℕ) → mode < 2 → accepted mode fmt si
 unfolding accepted
 accepted-direct mode fmt siz h a = rw (lt-leb 2 mode h) at a
 
+-- document 02's item 10: "a pair accepted before decoding is always known to the texel step, in all four modes"
 pub accepted-known : (mode fmt siz : ℕ) → accepted mode fmt siz ≡ true → stepKnows mode fmt siz ≡ true
 unfolding accepted
 accepted-known mode fmt siz a = go (tlut mode) a

@@ -30,3 +30,4 @@ pub mod Worked
 pub mod PamWorked
 pub mod Splits
 pub mod SplitWorked
+pub mod Nine

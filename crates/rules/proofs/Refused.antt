@@ -27,41 +27,58 @@ unfoldable pub Passed : List Test → Type 0
 Passed [] = Unit {0}
 Passed (t ∷ l) = (t .fails ≡ false) × Passed l
 
--- no test of the list has the number 0
-unfoldable pub Numbered : List Test → Type 0
-Numbered [] = Unit {0}
-Numbered (t ∷ l) = (t .number ≡ 0 → ⊥) × Numbered l
+-- no test of the list has the number n
+unfoldable pub Without : ℕ → List Test → Type 0
+Without n [] = Unit {0}
+Without n (t ∷ l) = (t .number ≡ n → ⊥) × Without n l
 
 -- antt computes that of a list whose numbers are written out
-abbrev pub nonzero : List Test → Bool
-nonzero [] = true
-nonzero (t ∷ l) = not (eqb (t .number) 0) && nonzero l
+abbrev pub lacks : ℕ → List Test → Bool
+lacks n [] = true
+lacks n (t ∷ l) = not (eqb (t .number) n) && lacks n l
 
-pub numbered : (l : List Test) → nonzero l ≡ true → Numbered l
-unfolding Numbered
-numbered [] h = tt
-numbered (t ∷ l) h = go (eqb (t .number) 0) refl h (numbered l)
+pub without : (n : ℕ) (l : List Test) → lacks n l ≡ true → Without n l
+unfolding Without
+without n [] h = tt
+without n (t ∷ l) h = go (eqb (t .number) n) refl h (without n l)
   where
-    go : (b : Bool) → eqb (t .number) 0 ≡ b → (not b && nonzero l) ≡ true → (nonzero l ≡ true → Numbered l)
-        → (t .number ≡ 0 → ⊥) × Numbered l
+    go : (b : Bool) → eqb (t .number) n ≡ b → (not b && lacks n l) ≡ true → (lacks n l ≡ true → Without n l)
+        → (t .number ≡ n → ⊥) × Without n l
     go true e h′ ih = absurd (true≢false (sym h′))
-    go false e h′ ih = (eqb-false (t .number) 0 e, ih h′)
+    go false e h′ ih = (eqb-false (t .number) n e, ih h′)
+
+-- a number other than 0 that no test has is not answered
+pub first-never : (n : ℕ) (l : List Test) → (n ≡ 0 → ⊥) → Without n l → first l ≡ n → ⊥
+unfolding Without first
+first-never n [] z w e = z (sym e)
+first-never n (t ∷ l) z w e = go (t .fails) e (first-never n l z (w .1))
+  where
+    go : (b : Bool) → cond b (t .number) (first l) ≡ n → (first l ≡ n → ⊥) → ⊥
+    go true e′ ih = w .0 e′
+    go false e′ ih = ih e′
+
+-- no test of the list has the number 0
+abbrev pub Numbered : List Test → Type 0
+Numbered l = Without 0 l
+
+pub numbered : (l : List Test) → lacks 0 l ≡ true → Numbered l
+numbered l h = without 0 l h
 
 -- where nothing is refused, every test passed
 pub passed : (l : List Test) → Numbered l → first l ≡ 0 → Passed l
-unfolding Passed Numbered
+unfolding Passed Without
 passed [] n h = tt
 passed (t ∷ l) n h = let p = first-zero t l (n .0) h in (p .0, passed l (n .1) (p .1))
 
 -- where nothing of a list is refused, nothing of its front is
 pub first-front : (l m : List Test) → Numbered l → first (l ++ m) ≡ 0 → first l ≡ 0
-unfolding Numbered first
+unfolding Without first
 first-front [] m n h = refl
 first-front (t ∷ l) m n h = let p = first-zero t (l ++ m) (n .0) h in rw (p .0) (first-front l m (n .1) (p .1))
 
 -- tests after others are reached where none of those fails
 pub first-append : (l m : List Test) → Numbered l → first (l ++ m) ≡ cond (eqb (first l) 0) (first m) (first l)
-unfolding first Numbered
+unfolding first Without
 first-append [] m n = refl
 first-append (t ∷ l) m n = go (t .fails) (first-append l m (n .1))
   where

@@ -11,7 +11,7 @@ use Rattle.rules.specs.Tile.{Tile, loadFieldsOutside}
 use Rattle.rules.specs.Load.{stored, written, following, ordinary, reasonLeft, reasoned}
 use Rattle.rules.specs.Key.{keptCount}
 use Rattle.rules.specs.Refusal.{Test, _if_, first, settle, callOr}
-use Rattle.rules.specs.Calls.{sourceOutside, numberTests, pairTests, unknownPair}
+use Rattle.rules.specs.Calls.{sourceOutside, numberTests, pairTests}
 use Rattle.rules.specs.Replay.{replaySize, kindIn, laneIn, tileIn, modeIn, imageIn, sizeIn, asksKey, storesIn, outsideIn}
 use Rattle.rules.specs.Replay.{beyond, recordTests, Carried, lentOf, spent, countOf, left, lastOf, tested, stepTests, outcome, partOf}
 use Rattle.rules.specs.Replay.{shortPart, ownTests, replayTests, replayCall}
@@ -33,7 +33,7 @@ shorter-source size less t image outside l h z =
 
 module _ (end : ℕ) (r : List ℕ) where
   abbrev pub keyTestsIn : List Test
-  keyTestsIn = pairTests (tileIn r) (modeIn r) (laneIn r) (unknownPair (tileIn r) (modeIn r) ∷ [])
+  keyTestsIn = pairTests (tileIn r) (modeIn r) (laneIn r)
 
   abbrev pub loadTestsIn : List Test
   loadTestsIn = numberTests (sizeIn r) (tileIn r) (imageIn r) (outsideIn r) (beyond end r ∷ [])

@@ -2,7 +2,6 @@
 -- picture is visible whole.
 use mathlib.Core.Path.{_≡_, refl}
 use mathlib.Core.Bool.{Bool, true, false, cond, _&&_, _||_}
-use mathlib.Core.List.{[]}
 use Prim.Native.Nat.{ℕ, _^_, _≤_}
 use native.Mathlib.Omega.{arith}
 use lib.Dec.{ltb}
@@ -40,11 +39,11 @@ visible-inside t h =
     (side-le (t .cms) (t .masks) (t .width))
     (side-le (t .cmt) (t .maskt) (t .height)) h
 
-pub visible-allowed : (t v : Tile) (mode lane : ℕ) → v ≡ visible t → first (pairTests t mode lane []) ≡ 0
-    → first (pairTests v mode lane []) ≡ 0
+pub visible-allowed : (t v : Tile) (mode lane : ℕ) → v ≡ visible t → first (pairTests t mode lane) ≡ 0
+    → first (pairTests v mode lane) ≡ 0
 unfolding Passed first
 visible-allowed t v mode lane e h =
-    let p = passed (pairTests t mode lane []) (numbered (pairTests t mode lane []) refl) h in
+    let p = passed (pairTests t mode lane) (numbered (pairTests t mode lane) refl) h in
     rw (e, visible-inside t (p .0), p .1 .0, p .1 .1 .0, p .1 .1 .1 .0)
 
 -- an axis that is not cut, and a tile that is cut on none

@@ -1,7 +1,7 @@
 -- Every public call, on every input: its refusals in order, its answer, and the lent buffers as it leaves them.
 use mathlib.Core.Path.{_≡_}
 use mathlib.Core.Bool.{Bool, not, _||_}
-use mathlib.Core.List.{List, [], _∷_}
+use mathlib.Core.List.{List, [], _∷_, _++_}
 use Prim.Native.Nat.{ℕ, _*_, _/_}
 use lib.Dec.{eqb, ltb}
 use lib.ListN.{length}
@@ -9,7 +9,7 @@ use Rattle.rules.specs.Base.{one, over}
 use Rattle.rules.specs.Refusal.{Test, _if_, Outcome, call, callOr}
 use Rattle.rules.specs.Tile.{Tile, bankSize, mapSize, writtenSize, reasonsSize, laneMapSize}
 use Rattle.rules.specs.Tile.{loadFieldsOutside, tileOutside, modeOutside, laneOutside}
-use Rattle.rules.specs.Texdec.{accepted, stepKnows}
+use Rattle.rules.specs.Texdec.{accepted}
 use Rattle.rules.specs.Sampling.{flag, extentWidth, extentHeight, lookupTexels}
 use Rattle.rules.specs.Load.{Store, loadTile, blockStores, tileStores, hardwareStores, rowStores, stored, written, following, madeUp}
 use Rattle.rules.specs.Load.{Reason, reasonOutside, reasonLeft, reasoned}
@@ -18,7 +18,7 @@ use Rattle.rules.specs.Picture.{plain, lookup}
 use Rattle.rules.specs.Reach.{reachMap, hasLoad, rejection, laneMap}
 use Rattle.rules.specs.Key.{key, keptCount}
 
--- The tests, by their numbers.
+-- The tests, by their numbers. "Number 9 is not given out again."
 
 -- "a lent bank or key is not 4,096 bytes, a .. reach map not 512, or a lane map not 32"; the written map "becomes 8,192 bytes ..; refusal
 -- 1 now tests that length"; of the reasons "refusal 1 tests its length too"
@@ -58,10 +58,6 @@ hardwareOutside image count rows stride = eqb image 0 || ltb 1024 count || not (
 -- "the pair is not accepted (pictures, lookups, keys)"
 abbrev pub badPair : Tile → ℕ → Test
 badPair t mode = 5 if not (accepted mode (t .fmt) (t .siz))
-
--- "the texel step meets a pair it does not know"
-abbrev pub unknownPair : Tile → ℕ → Test
-unknownPair t mode = 9 if not (stepKnows mode (t .fmt) (t .siz))
 
 -- the tests of a lent bank, written map and reasons stand before all others of the calls that take them
 abbrev pub lentTests : List ℕ → List ℕ → List ℕ → List Test → List Test
@@ -155,9 +151,9 @@ laneTests bank map = (1 if notBytes bankSize bank) ∷ (1 if notBytes laneMapSiz
 unfoldable pub laneCall : List ℕ → List ℕ → Outcome
 laneCall bank map = call (laneTests bank map) [] (laneMap bank ∷ []) (map ∷ [])
 
--- Pictures. The tests before the buffers', the buffers' own, and number 9 last.
-abbrev pub pairTests : Tile → ℕ → ℕ → List Test → List Test
-pairTests t mode lane l = badTile t ∷ badMode mode ∷ badLane lane ∷ badPair t mode ∷ l
+-- Pictures. The tests before the buffers', and then the buffers' own.
+abbrev pub pairTests : Tile → ℕ → ℕ → List Test
+pairTests t mode lane = badTile t ∷ badMode mode ∷ badLane lane ∷ badPair t mode ∷ []
 
 -- "the picture buffer is shorter than 4 bytes a texel"
 abbrev pub shortPicture : ℕ → List ℕ → Test
@@ -169,12 +165,11 @@ shortTrail r bank seen = 7 if ltb (length seen / 2) (length (trail r bank))
 
 abbrev pub pictureTests : List ℕ → Tile → ℕ → ℕ → ℕ → List ℕ → List Test
 pictureTests bank t mode lane count out =
-    (1 if notBytes bankSize bank) ∷ pairTests t mode lane (shortPicture count out ∷ unknownPair t mode ∷ [])
+    (1 if notBytes bankSize bank) ∷ pairTests t mode lane ++ (shortPicture count out ∷ [])
 
 abbrev pub observedTests : List ℕ → Tile → ℕ → ℕ → ℕ → Reading → List ℕ → List ℕ → List Test
 observedTests bank t mode lane count r out seen =
-    (1 if notBytes bankSize bank)
-    ∷ pairTests t mode lane (shortPicture count out ∷ shortTrail r bank seen ∷ unknownPair t mode ∷ [])
+    (1 if notBytes bankSize bank) ∷ pairTests t mode lane ++ (shortPicture count out ∷ shortTrail r bank seen ∷ [])
 
 -- the picture of a reading alone, and with its trail; the count of reads is answered
 unfoldable pub pictureCall : Reading → ℕ → List ℕ → Tile → ℕ → ℕ → List ℕ → Outcome
@@ -207,7 +202,7 @@ samplingLookupObservedCall bank t mode lane out seen = observedCall (lookup t mo
 -- The key: bank and key are lent, and the kept count is answered.
 abbrev pub keyTests : List ℕ → Tile → ℕ → ℕ → List ℕ → List Test
 keyTests bank t mode lane out =
-    (1 if notBytes bankSize bank) ∷ (1 if notBytes bankSize out) ∷ pairTests t mode lane (unknownPair t mode ∷ [])
+    (1 if notBytes bankSize bank) ∷ (1 if notBytes bankSize out) ∷ pairTests t mode lane
 
 unfoldable pub keyCall : List ℕ → Tile → ℕ → ℕ → List ℕ → Outcome
 keyCall bank t mode lane out =

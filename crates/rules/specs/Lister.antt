@@ -8,7 +8,7 @@ use Rattle.rules.specs.Base.{one, tab, concat, recordOf, over}
 use Rattle.rules.specs.Tile.{Tile, bankSize}
 use Rattle.rules.specs.Sampling.{flag, texels}
 use Rattle.rules.specs.Refusal.{_if_, Outcome, call}
-use Rattle.rules.specs.Calls.{pairTests, unknownPair}
+use Rattle.rules.specs.Calls.{pairTests}
 use Rattle.rules.specs.Key.{keptCount}
 
 -- "records of 4,112 bytes, no header"
@@ -48,7 +48,7 @@ recordBank r = take bankSize (drop 16 r)
 -- "refusal, flag, distinct kept bytes, texels; on refusal the rest are 0"; "Lane is 0."
 unfoldable pub lineOf : Tile → ℕ → List ℕ → Outcome
 lineOf t mode bank =
-    call (pairTests t mode 0 (unknownPair t mode ∷ []))
+    call (pairTests t mode 0)
     (one (flag t mode) ∷ keptCount t mode 0 bank ∷ texels t mode ∷ [])
     [] []
 

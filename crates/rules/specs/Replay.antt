@@ -10,7 +10,7 @@ use Rattle.rules.specs.Tile.{Tile, freshBank, freshWritten, freshReasons
 use Rattle.rules.specs.Load.{Store, loadTile, blockStores, tileStores, tlutStores, following, ordinary}
 use Rattle.rules.specs.Key.{keptCount}
 use Rattle.rules.specs.Refusal.{Test, _if_, Outcome, first, callOr}
-use Rattle.rules.specs.Calls.{lentTests, numberSpent, numberTests, leftBy, pairTests, unknownPair}
+use Rattle.rules.specs.Calls.{lentTests, numberSpent, numberTests, leftBy, pairTests}
 use Rattle.rules.specs.Calls.{blockOutside, tileLoadOutside, tlutOutside}
 use Rattle.rules.specs.Lister.{byte, two, recordTile, recordMode, lineText}
 
@@ -94,7 +94,7 @@ recordTests end r =
     (8 if ltb (length r) replaySize)
     ∷ (10 if ltb 3 (kindIn r))
     ∷ cond (asksKey r)
-    (pairTests (tileIn r) (modeIn r) (laneIn r) (unknownPair (tileIn r) (modeIn r) ∷ []))
+    (pairTests (tileIn r) (modeIn r) (laneIn r))
     (numberTests (sizeIn r) (tileIn r) (imageIn r) (outsideIn r) (beyond end r ∷ []))
 
 -- what is carried from record to record; "The bank starts fresh", and loads are "counted from 1 since the fresh state"

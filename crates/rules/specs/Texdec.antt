@@ -63,7 +63,7 @@ known i4 = true
 known i8 = true
 known unknown = false
 
--- refusal 9: "the texel step meets a pair it does not know"
+-- the texel step knows the pair; that it knows each accepted one is `accepted-known` of proofs/Formats
 abbrev pub stepKnows : ℕ → ℕ → ℕ → Bool
 stepKnows mode fmt siz = tlut mode || known (formatOf fmt siz)
 

@@ -1,6 +1,5 @@
 // The refusals of a call that decodes: of its tile, mode and lane, and of a pair that is not accepted.
 ghost use mathlib.Core.Path.{_≡_};
-ghost use mathlib.Core.List.{[]};
 ghost use Rattle.rules.specs.Refusal.{first};
 ghost use Rattle.rules.specs.Calls.{pairTests};
 ghost use Rattle.rdp.specs.View.{tileOf};
@@ -11,7 +10,7 @@ use rdp::tile::TileDescriptor;
 
 // 2, then 3 for the mode and the lane, then 5.
 pub fn pair_refusal(tile: TileDescriptor, tlut: u32, lane: u32) -> u32
-    ensures { λ r. ⌜ r ≡ first (pairTests (tileOf tile) tlut lane []) ⌝ }
+    ensures { λ r. ⌜ r ≡ first (pairTests (tileOf tile) tlut lane) ⌝ }
 {
     let no = tile::tile_and_mode_refusal(tile, tlut);
     if no != 0 {

@@ -37,26 +37,23 @@ texel-count-requires c κs = tiled c
 tile-reads-requires : tie.Need-tile-reads-requires
 tile-reads-requires c κs = tiled (c .before)
 
+mul-refuse : tie.Need-mul-refuse
+mul-refuse c = omega (arith, mul-le-mul (c .tile-reads .ensures .1) (c .before .texel-count .ensures .1))
+
 refuse-requires : tie.Need-refuse-requires
 refuse-requires c κs = search needs
-
-mul-refuse : tie.Need-mul-refuse
-mul-refuse c = omega (arith, mul-le-mul (c .before .tile-reads .ensures .1) (c .before .before .texel-count .ensures .1))
-
-refuse-requires-2 : tie.Need-refuse-requires-2
-refuse-requires-2 c κs = search needs
 
 mul-refuse-2 : tie.Need-mul-refuse-2
 mul-refuse-2 c = search needs
 
-refuse-requires-3 : tie.Need-refuse-requires-3
-refuse-requires-3 c κs = search needs
+refuse-requires-2 : tie.Need-refuse-requires-2
+refuse-requires-2 c κs = search needs
 
 returns-2 : tie.Need-returns-2
 returns-2 c =
-    let r = c .before .before .before in
+    let r = c .before .before in
     let a = r .before .before .before .before .before .before .before .args in
-    rw (c .refuse3 .ensures, c .before .refuse2 .ensures, c .before .before .refuse .ensures)
+    rw (c .refuse2 .ensures, c .before .refuse .ensures)
     (refusal-late (a .observe) (a .lookup) (a .bank .now) (tileOf (a .tile)) (a .«tlut-fmt») (a .lane) (a .out .now) (a .seen .now) _ _
     (none (r .before .before)) (r .before .texel-count .ensures .0) (r .tile-reads .ensures .0))
 
@@ -68,9 +65,8 @@ first-refusal-spec =
     returns
     texel-count-requires
     tile-reads-requires
-    refuse-requires
     mul-refuse
-    refuse-requires-2
+    refuse-requires
     mul-refuse-2
-    refuse-requires-3
+    refuse-requires-2
     returns-2)

@@ -1,10 +1,7 @@
--- `key::key::key_refusal` answers the first test that fails; the last of them, 9, never does. Assumes nothing.
-use mathlib.Core.Path.{_∙_}
+-- `key::key::key_refusal` answers the first test that fails. Assumes nothing.
 use borrow.Author.Tests.{eq-eqb, ne-eqb}
 use borrow.Author.Needs.{needs}
 use Rattle.rules.specs.Refusal.{first}
-use Rattle.rdp.specs.View.{tileOf}
-use Rattle.rules.proofs.Allowed.{never-nine}
 use Rattle.key.proofs.key.key_refusal.Statement.{statement}
 use Rattle.key.proofs.key.key_refusal.Tie as tie
 
@@ -23,9 +20,7 @@ returns-3 : tie.Need-returns-3
 unfolding first
 returns-3 c =
     let b = c .before in
-    let a = b .before .before .before .before .args in
-    rw (eq-eqb _ _ (b .before .if1 .left), eq-eqb _ _ (b .if2 .left))
-    (c .pair-refusal .ensures ∙ never-nine (tileOf (a .tile)) (a .tlut) (a .lane))
+    rw (eq-eqb _ _ (b .before .if1 .left), eq-eqb _ _ (b .if2 .left)) (c .pair-refusal .ensures)
 
 pub key-refusal-spec : {M : Type 1} → statement M
 key-refusal-spec = tie.close (tie.spec returns returns-2 pair-refusal-requires returns-3)

@@ -1,10 +1,7 @@
 -- `replaying::refusals::key_refusal` tests what a key takes. Assumes nothing.
 use mathlib.Core.Path.{_∙_}
-use mathlib.Core.List.{[]}
 use Rattle.rules.specs.Refusal.{first}
 use Rattle.rules.specs.Calls.{pairTests}
-use Rattle.rules.specs.Replay.{laneIn, tileIn, modeIn}
-use Rattle.rules.proofs.Allowed.{never-nine}
 use borrow.Author.Needs.{needs}
 use Rattle.replaying.proofs.refusals.key_refusal.Statement.{statement}
 use Rattle.replaying.proofs.refusals.key_refusal.Tie as tie
@@ -26,10 +23,8 @@ returns c =
     let l = c .before in
     let m = l .before in
     let t = m .before in
-    let b = t .before .before .args .bytes .now in
     c .pair-refusal .ensures
-    ∙ (λ i. first (pairTests (t .tile-in .ensures i) (m .mode-in .ensures i) (l .lane-in .ensures i) []))
-    ∙ never-nine (tileIn b) (modeIn b) (laneIn b)
+    ∙ (λ i. first (pairTests (t .tile-in .ensures i) (m .mode-in .ensures i) (l .lane-in .ensures i)))
 
 pub key-refusal-spec : {M : Type 1} → statement M
 key-refusal-spec =

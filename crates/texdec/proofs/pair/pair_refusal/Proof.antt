@@ -15,7 +15,7 @@ use Rattle.texdec.proofs.pair.pair_refusal.Tie as tie
 
 -- once tile and mode passed, the answer is by the lane and the pair
 answer : (t : Tile) (mode lane n : ℕ) (u v : Bool) → n ≡ first (samplingTests t mode) → n ≡ 0 → laneOutside lane ≡ u
-    → accepted mode (t .fmt) (t .siz) ≡ v → cond u 3 (cond (not v) 5 0) ≡ first (pairTests t mode lane [])
+    → accepted mode (t .fmt) (t .siz) ≡ v → cond u 3 (cond (not v) 5 0) ≡ first (pairTests t mode lane)
 unfolding first
 answer t mode lane n u v e z p q =
     let l = samplingTests t mode in
