@@ -10,7 +10,8 @@ use borrow.Author.Tests.{ltb-false}
 use Rattle.rules.specs.Tile.{Tile}
 use Rattle.rules.specs.Load.{Store, following, Reason, reasonOutside, reasonLeft}
 use Rattle.rules.specs.Refusal.{Test, _if_, first}
-use Rattle.rules.specs.Calls.{numberSpent, badReason, numberTests, loadTests, loaded, blockOutside, tileLoadOutside, tlutOutside, hardwareOutside}
+use Rattle.rules.specs.Calls.{numberSpent, badReason, numberTests, loadTests, loaded}
+use Rattle.rules.specs.Calls.{blockOutside, tileLoadOutside, tlutOutside, hardwareOutside}
 use Rattle.rules.proofs.Ranges.{neither}
 use Rattle.rules.proofs.Refused.{Passed, numbered, passed, done-or-is}
 use Rattle.rules.proofs.LentTests.{lent-passed}
