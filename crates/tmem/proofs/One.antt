@@ -46,10 +46,12 @@ pub write-tile-for-tile-one : (w : _) (a : _) (r s : _) (e f : _) → write-tile
     → (r ≡ s) × (now (e .0) ∷ now (e .1 .0) ∷ now (e .1 .1 .0) ∷ [] ≡ now (f .0) ∷ now (f .1 .0) ∷ now (f .1 .1 .0) ∷ [])
 write-tile-for-tile-one w a r s e f p q = load-determined _ r s _ _ p q
 
-pub write-tlut-hardware-for-tile-one : (w : _) (a : _) (r s : _) (e f : _) → write-tlut-hardware-for-tile.Post w a r e → write-tlut-hardware-for-tile.Post w a s f
+pub write-tlut-hardware-for-tile-one : (w : _) (a : _) (r s : _) (e f : _) → write-tlut-hardware-for-tile.Post w a r e
+    → write-tlut-hardware-for-tile.Post w a s f
     → (r ≡ s) × (now (e .0) ∷ now (e .1 .0) ∷ now (e .1 .1 .0) ∷ [] ≡ now (f .0) ∷ now (f .1 .0) ∷ now (f .1 .1 .0) ∷ [])
 write-tlut-hardware-for-tile-one w a r s e f p q = load-determined _ r s _ _ p q
 
-pub write-tlut-rows-for-tile-one : (w : _) (a : _) (r s : _) (e f : _) → write-tlut-rows-for-tile.Post w a r e → write-tlut-rows-for-tile.Post w a s f
+pub write-tlut-rows-for-tile-one : (w : _) (a : _) (r s : _) (e f : _) → write-tlut-rows-for-tile.Post w a r e
+    → write-tlut-rows-for-tile.Post w a s f
     → (r ≡ s) × (now (e .0) ∷ now (e .1 .0) ∷ now (e .1 .1 .0) ∷ [] ≡ now (f .0) ∷ now (f .1 .0) ∷ now (f .1 .1 .0) ∷ [])
 write-tlut-rows-for-tile-one w a r s e f p q = load-determined _ r s _ _ p q

@@ -1,16 +1,17 @@
 -- What holds of a load that is not refused.
 use mathlib.Core.Path.{_≡_, refl}
-use mathlib.Core.Bool.{Bool, false}
+use mathlib.Core.Bool.{Bool, false, not, _||_}
 use mathlib.Core.List.{List, [], _∷_}
 use Prim.Native.Nat.{ℕ, _≤_}
 use native.Mathlib.Omega.{arith}
-use lib.Dec.{ltb}
+use lib.Dec.{eqb, ltb}
 use lib.ListN.{length}
 use borrow.Author.Tests.{ltb-false}
 use Rattle.rules.specs.Tile.{Tile}
 use Rattle.rules.specs.Load.{Store, following, Reason, reasonOutside, reasonLeft}
 use Rattle.rules.specs.Refusal.{Test, _if_, first}
-use Rattle.rules.specs.Calls.{numberSpent, badReason, numberTests, loadTests, loaded, blockOutside, tileLoadOutside, tlutOutside, hardwareOutside}
+use Rattle.rules.specs.Calls.{numberSpent, badReason, numberTests, loadTests, loaded}
+use Rattle.rules.specs.Calls.{blockOutside, tileLoadOutside, tlutOutside, hardwareOutside}
 use Rattle.rules.proofs.Ranges.{neither}
 use Rattle.rules.proofs.Refused.{Passed, numbered, passed, done-or-is}
 use Rattle.rules.proofs.LentTests.{lent-passed}
@@ -74,4 +75,7 @@ tlut-in count rows stride h =
     (ltb-false _ _ (r .0), (ltb-false _ _ (q .1), ltb-false _ _ (p .1)))
 
 pub hardware-in : (image count rows stride : ℕ) → hardwareOutside image count rows stride ≡ false → count ≤ 1024
-hardware-in image count rows stride h = ltb-false _ _ (neither _ _ (neither _ _ (neither _ _ h .0) .0) .1)
+hardware-in image count rows stride h =
+    let p = neither (eqb image 0 || ltb 1024 count || not (eqb rows 1)) (ltb 65535 stride) h in
+    let q = neither (eqb image 0 || ltb 1024 count) (not (eqb rows 1)) (p .0) in
+    ltb-false 1024 count (neither (eqb image 0) (ltb 1024 count) (q .0) .1)

@@ -256,13 +256,13 @@ pub fn write_tlut_hardware_for_tile(
         src,
         tile,
         image_siz,
-        asked,
+        by_hardware,
         reason,
         last,
     )
 }
 
-// A lookup table of `count` entries a row, row by row: the defined extension for several rows or an image of size 0.
+// A lookup table of `row_entries` entries a row, row by row: the defined extension for several rows or an image of size 0.
 pub fn write_tlut_rows_for_tile(
     bank: &mut [u8],
     written: &mut [u8],
@@ -270,7 +270,7 @@ pub fn write_tlut_rows_for_tile(
     src: &[u8],
     tile: TileDescriptor,
     image_siz: u32,
-    count: u32,
+    row_entries: u32,
     rows: u32,
     stride: u32,
     reason: Reason,
@@ -278,10 +278,10 @@ pub fn write_tlut_rows_for_tile(
 ) -> LoadAnswer
     ensures { λ r. ⌜ loadAnswered r (now (bank .exit) ∷ now (written .exit) ∷ now (reasons .exit) ∷ [])
         ≡ tlutRowsCall (now (bank .entry)) (now (written .entry)) (now (reasons .entry)) (now (src .entry))
-        (tileOf tile) «image_siz» count rows stride (reasonOf reason) last ⌝ }
+        (tileOf tile) «image_siz» «row_entries» rows stride (reasonOf reason) last ⌝ }
 {
     let by_rows = Asked::TlutRows {
-        count: count as usize,
+        count: row_entries as usize,
         rows: rows as usize,
         stride: stride as usize,
     };
@@ -292,7 +292,7 @@ pub fn write_tlut_rows_for_tile(
         src,
         tile,
         image_siz,
-        asked,
+        by_rows,
         reason,
         last,
     )

@@ -47,7 +47,8 @@ pub tk-load-tile-one : (w : _) (a : _) (r s : _) (e f : _) → tk-load-tile.Post
     → (r ≡ s) × (now (e .0) ∷ now (e .1 .0) ∷ now (e .1 .1 .0) ∷ [] ≡ now (f .0) ∷ now (f .1 .0) ∷ now (f .1 .1 .0) ∷ [])
 tk-load-tile-one w a r s e f p q = load-determined _ r s _ _ p q
 
-pub tk-load-tlut-hardware-one : (w : _) (a : _) (r s : _) (e f : _) → tk-load-tlut-hardware.Post w a r e → tk-load-tlut-hardware.Post w a s f
+pub tk-load-tlut-hardware-one : (w : _) (a : _) (r s : _) (e f : _) → tk-load-tlut-hardware.Post w a r e
+    → tk-load-tlut-hardware.Post w a s f
     → (r ≡ s) × (now (e .0) ∷ now (e .1 .0) ∷ now (e .1 .1 .0) ∷ [] ≡ now (f .0) ∷ now (f .1 .0) ∷ now (f .1 .1 .0) ∷ [])
 tk-load-tlut-hardware-one w a r s e f p q = load-determined _ r s _ _ p q
 
@@ -103,7 +104,8 @@ pub tk-reject-tile-one : (w : _) (a : _) (r s : _) (e f : _) → tk-reject-tile.
     → (r ≡ s) × (now (e .0) ∷ now (e .1 .0) ∷ now (e .1 .1 .0) ∷ [] ≡ now (f .0) ∷ now (f .1 .0) ∷ now (f .1 .1 .0) ∷ [])
 tk-reject-tile-one w a r s e f p q = load-determined _ r s _ _ p q
 
-pub tk-reject-tlut-hardware-one : (w : _) (a : _) (r s : _) (e f : _) → tk-reject-tlut-hardware.Post w a r e → tk-reject-tlut-hardware.Post w a s f
+pub tk-reject-tlut-hardware-one : (w : _) (a : _) (r s : _) (e f : _) → tk-reject-tlut-hardware.Post w a r e
+    → tk-reject-tlut-hardware.Post w a s f
     → (r ≡ s) × (now (e .0) ∷ now (e .1 .0) ∷ now (e .1 .1 .0) ∷ [] ≡ now (f .0) ∷ now (f .1 .0) ∷ now (f .1 .1 .0) ∷ [])
 tk-reject-tlut-hardware-one w a r s e f p q = load-determined _ r s _ _ p q
 

@@ -40,11 +40,12 @@ passes c = sym (c .before .load-refusal .ensures) ∙ c .if1 .left
 
 -- so the load is inside its ranges
 inside : (c : tie.Else1) → let a = c .before .before .before .before .before .before .before .before .before .args in
-    Within (a .bank .now) (a .written .now) (a .reasons .now) (a .image-siz) (askedOutside (a .image-siz) (a .asked)) (reasonOf (a .reason)) (a .last)
+    Within (a .bank .now) (a .written .now) (a .reasons .now) (a .image-siz) (askedOutside (a .image-siz) (a .asked))
+    (reasonOf (a .reason)) (a .last)
 inside c =
     let a = c .before .before .before .before .before .before .before .before .before .args in
-    within (a .bank .now) (a .written .now) (a .reasons .now) (a .src .now) (tileOf (a .tile)) (a .image-siz) (askedOutside (a .image-siz) (a .asked))
-    (reasonOf (a .reason)) (a .last) (passes c)
+    within (a .bank .now) (a .written .now) (a .reasons .now) (a .src .now) (tileOf (a .tile)) (a .image-siz)
+    (askedOutside (a .image-siz) (a .asked)) (reasonOf (a .reason)) (a .last) (passes c)
 
 add-number : tie.Need-add-number
 add-number c = omega (arith, inside c .lent .number-in)
