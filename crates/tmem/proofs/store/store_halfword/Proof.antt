@@ -19,14 +19,10 @@ add-bank c = search needs
 slice-write-bank-2 : tie.Need-slice-write-bank-2
 slice-write-bank-2 c = simp length-set (omega arith)
 
-slice-write-reasons : tie.Need-slice-write-reasons
-slice-write-reasons c = search needs
-
-add-reasons : tie.Need-add-reasons
-add-reasons c = search needs
-
-slice-write-reasons-2 : tie.Need-slice-write-reasons-2
-slice-write-reasons-2 c = simp length-set (omega arith)
+leave-reason-requires : tie.Need-leave-reason-requires
+leave-reason-requires c κs =
+    let s = c .before .before .before .before in
+    omega (arith, s .pre .0 .whole .whole-reasons, s .pre .1)
 
 mul-start : tie.Need-mul-start
 mul-start c = search needs
@@ -42,7 +38,7 @@ part-mark-in-end c = search needs
 
 mark-in-requires : tie.Need-mark-in-requires
 mark-in-requires c κs =
-    let s = c .before .before .before .before in
+    let s = c .before .before .before .before .before .before .before .before in
     (simp (length-take, length-drop) (omega (arith, s .pre .0 .whole .whole-map, s .pre .1)), s .pre .0 .number-in)
 
 same-length : tie.Need-same-length
@@ -58,11 +54,12 @@ returns : tie.Need-returns
 unfolding stored written stamps reasoned
 returns c =
     let d = c .before .before in
-    let a = d .before .before .before .before .before .args in
+    let r = d .before .before .before .before in
+    let a = r .before .before .before .before .before .args in
     record {
       bank-is = refl;
       map-is = both-back (a .label .number) (a .written .now) (a .at .0) (d .mark-in .last .0) (d .mark-in .ensures);
-      reasons-is = refl;
+      reasons-is = r .leave-reason .ensures;
     }
 
 pub store-halfword-spec : {M : Type 1} → statement M
@@ -72,9 +69,7 @@ store-halfword-spec =
     slice-write-bank
     add-bank
     slice-write-bank-2
-    slice-write-reasons
-    add-reasons
-    slice-write-reasons-2
+    leave-reason-requires
     mul-start
     sub-mark-in
     part-mark-in-start
