@@ -1,24 +1,13 @@
 // The two stores of a halfword, which leave the load's number and its reason at their addresses. Every store of a load is one of such two.
 ghost use mathlib.Core.Path.{_≡_};
 ghost use mathlib.Core.List.{[], _∷_};
-ghost use Prim.Native.Nat.{_+_, _%_, _<_};
-ghost use lib.ListN.{length, set};
+ghost use Prim.Native.Nat.{_%_, _<_};
 ghost use Rattle.rules.specs.Tile.{bankSize};
 ghost use Rattle.tmem.specs.Part.{memory, Lent, halfStores, bytesIn, CarriedOut};
 use crate::label::Label;
 use crate::packed::byte_of;
 use crate::written::mark_in;
 use rdp::units::ByteAddr;
-
-// Both addresses of a halfword get the reason. The two bytes are one number, so that they are compiled to one store.
-fn leave_reason(reasons: &mut [u8], i: usize, reason: u8)
-    requires { ⌜ i + 1 < length (now reasons) ⌝ }
-    ensures { λ _. ⌜ now (reasons .exit) ≡ set (set (now (reasons .entry)) i reason) (i + 1) reason ⌝ }
-{
-    let both = 257 * reason as usize;
-    reasons[i] = (both % 256) as u8;
-    reasons[i + 1] = (both / 256) as u8;
-}
 
 // The two stores of a halfword, at an even address, which leave number and reason at both of its addresses.
 fn store_halfword(
@@ -39,7 +28,8 @@ fn store_halfword(
     let i = at.0;
     bank[i] = first;
     bank[i + 1] = second;
-    leave_reason(reasons, i, label.reason);
+    reasons[i] = label.reason;
+    reasons[i + 1] = label.reason;
     let start = 2 * i;
     mark_in(&mut written[start..], label.number);
 }

@@ -19,10 +19,14 @@ add-bank c = search needs
 slice-write-bank-2 : tie.Need-slice-write-bank-2
 slice-write-bank-2 c = simp length-set (omega arith)
 
-leave-reason-requires : tie.Need-leave-reason-requires
-leave-reason-requires c κs =
-    let s = c .before .before .before .before in
-    omega (arith, s .pre .0 .whole .whole-reasons, s .pre .1)
+slice-write-reasons : tie.Need-slice-write-reasons
+slice-write-reasons c = search needs
+
+add-reasons : tie.Need-add-reasons
+add-reasons c = search needs
+
+slice-write-reasons-2 : tie.Need-slice-write-reasons-2
+slice-write-reasons-2 c = simp length-set (omega arith)
 
 mul-start : tie.Need-mul-start
 mul-start c = search needs
@@ -38,7 +42,7 @@ part-mark-in-end c = search needs
 
 mark-in-requires : tie.Need-mark-in-requires
 mark-in-requires c κs =
-    let s = c .before .before .before .before .before .before .before .before in
+    let s = c .before .before .before .before in
     (simp (length-take, length-drop) (omega (arith, s .pre .0 .whole .whole-map, s .pre .1)), s .pre .0 .number-in)
 
 same-length : tie.Need-same-length
@@ -54,12 +58,11 @@ returns : tie.Need-returns
 unfolding stored written stamps reasoned
 returns c =
     let d = c .before .before in
-    let r = d .before .before .before .before in
-    let a = r .before .before .before .before .before .args in
+    let a = d .before .before .before .before .before .args in
     record {
       bank-is = refl;
       map-is = both-back (a .label .number) (a .written .now) (a .at .0) (d .mark-in .last .0) (d .mark-in .ensures);
-      reasons-is = r .leave-reason .ensures;
+      reasons-is = refl;
     }
 
 pub store-halfword-spec : {M : Type 1} → statement M
@@ -69,7 +72,9 @@ store-halfword-spec =
     slice-write-bank
     add-bank
     slice-write-bank-2
-    leave-reason-requires
+    slice-write-reasons
+    add-reasons
+    slice-write-reasons-2
     mul-start
     sub-mark-in
     part-mark-in-start
