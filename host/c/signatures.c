@@ -504,9 +504,9 @@ static void check_replay(void) {
     static const uint8_t block[TK_RECORD_BYTES] = {[0] = 0, [3] = 2, [11] = 1, [13] = 2, [19] = 2, [23] = 1, [37] = 8};
     static const uint8_t tile[TK_RECORD_BYTES] = {
         [0] = 1, [3] = 2, [11] = 1, [13] = 2, [19] = 2, [23] = 1, [25] = 2, [29] = 16, [33] = 1, [37] = 20};
-    static const uint8_t tlut[TK_RECORD_BYTES] = {
+    static const uint8_t tlut_rows[TK_RECORD_BYTES] = {
         [0] = 2, [3] = 2, [11] = 1, [13] = 2, [19] = 0, [25] = 2, [27] = 2, [29] = 16, [33] = 2, [37] = 20};
-    static const uint8_t step[TK_RECORD_BYTES] = {
+    static const uint8_t tlut_hardware[TK_RECORD_BYTES] = {
         [0] = 2, [3] = 2, [11] = 1, [13] = 2, [19] = 2, [25] = 1, [27] = 2, [29] = 16, [33] = 3, [37] = 20};
     static const uint8_t key_of_tile[TK_RECORD_BYTES] = {3, 0, 4, 1, 1, 1, 2, 2, 1, 1, 0, 1, 0, 2, 0, 3, 0, 2};
     static const uint8_t key_of_repeating[TK_RECORD_BYTES] = {3, 0, 4, 1, 1, 1, 0, 2, 1, 1, 0, 1, 0, 2, 0, 3, 0, 2};
@@ -519,13 +519,15 @@ static void check_replay(void) {
                    2));
     CHECK(bank[16] == 101 && bank[28] == 117 && written_from(16, 32, 2));
     CHECK(bank[31] == 120 && bank[24] == 0); /* the source ends inside the second row */
-    CHECK(replayed(tk_replay_record_of(bank, written, reasons, tlut, sizeof source, source + 2, sizeof source - 2, 65534),
-                   32, 65535));
+    CHECK(replayed(
+        tk_replay_record_of(bank, written, reasons, tlut_rows, sizeof source, source + 2, sizeof source - 2, 65534), 32,
+        65535));
     CHECK(bank[16] == 102 && bank[24] == 104 && bank[48] == 118 && bank[56] == 120);
     CHECK(written_from(16, 32, 65535) && written_from(48, 64, 65535));
     CHECK(reasoned_from(16, 32, 0) && reasoned_from(48, 64, 0));
-    CHECK(replayed(tk_replay_record_of(bank, written, reasons, step, sizeof source, source + 3, sizeof source - 3, 7), 16,
-                   8));
+    CHECK(replayed(
+        tk_replay_record_of(bank, written, reasons, tlut_hardware, sizeof source, source + 3, sizeof source - 3, 7), 16,
+        8));
     CHECK(bank[16] == 103 && bank[48] == 105 && written_from(16, 24, 8) && written_from(48, 56, 8));
     uint8_t before[TK_BANK_BYTES];
     memcpy(before, bank, sizeof bank);
