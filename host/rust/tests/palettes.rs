@@ -83,8 +83,9 @@ fn the_narrower_ranges_are_tested_with_the_others() {
     let wide = Tile { fmt: 8, ..PLACE };
     for [size, rows] in [[0, 1], [2, 0], [2, 2], [0, 2]] {
         let mut bank = Bank::new();
-        assert_eq!(bank.load_tlut_hardware(&[], &wide, size, 1, rows, 0), Err(Refusal::Tile)); // before 4
-        assert_eq!(bank.reject_tlut_hardware(&[], &PLACE, size, 1, rows, 0, 0), Err(Refusal::Load)); // before 19
+        // 2 comes before 4, and 4 before 19.
+        assert_eq!(bank.load_tlut_hardware(&[], &wide, size, 1, rows, 0), Err(Refusal::Tile));
+        assert_eq!(bank.reject_tlut_hardware(&[], &PLACE, size, 1, rows, 0, 0), Err(Refusal::Load));
     }
     let mut bank = Bank::new();
     assert_eq!(bank.load_tlut_rows(&[], &wide, 2, 1, 0, 0), Err(Refusal::Tile));

@@ -57,8 +57,8 @@ const WALLS: [[u32; 5]; 13] = [
 ];
 
 /// Small loads by their own numbers: a block of even and odd rows, and one of no words; tiles whose rows are the same, share bytes,
-/// follow each other and stand apart; palettes of one row, which go step by step or as entries, and of several.
-const SMALL_LOADS: [(Call, [u32; 3]); 10] = [
+/// follow each other and stand apart; palettes of one row, which go step by step or as entries, and of several, by the pick and by rows.
+const SMALL_LOADS: [(Call, [u32; 3]); 12] = [
     (Call::LoadBlock, [2048, 3, 0]),
     (Call::LoadBlock, [2048, 0, 0]),
     (Call::LoadTile, [3, 2, 0]),
@@ -69,7 +69,13 @@ const SMALL_LOADS: [(Call, [u32; 3]); 10] = [
     (Call::LoadTlut, [3, 3, 4]),
     (Call::LoadTlut, [3, 3, 6]),
     (Call::LoadTlut, [3, 3, 9]),
+    (Call::LoadTlutRows, [9, 1, 0]),
+    (Call::LoadTlutRows, [3, 3, 4]),
 ];
+
+/// Palette loads, with their rows.
+const PALETTES: [(Call, u32); 4] =
+    [(Call::LoadTlut, 1), (Call::LoadTlut, 2), (Call::LoadTlutRows, 1), (Call::LoadTlutRows, 2)];
 
 /// Loads that ask for bytes on both sides of the longest source's end.
 const FAR_LOADS: [(Call, [u32; 3]); 2] = [(Call::LoadTile, [2, 2, 65525]), (Call::LoadTlut, [8, 2, 65525])];
@@ -222,12 +228,12 @@ fn loads(cases: &mut Vec<Case>) {
                 push(Call::LoadTile, [3, 2, 17], 51);
                 push(Call::LoadTile, [2, 3, 65535], 65536);
                 push(Call::LoadTile, [33, 9, 72], 0);
-                for rows in [1, 2] {
+                for (call, rows) in PALETTES {
                     for count in [0, 1, 2, 15, 16, 17, 256] {
-                        push(Call::LoadTlut, [count, rows, 2 * count], 2 * count * rows);
+                        push(call, [count, rows, 2 * count], 2 * count * rows);
                     }
-                    push(Call::LoadTlut, [1024, rows, 65535], 65536);
-                    push(Call::LoadTlut, [9, rows, 3], 5);
+                    push(call, [1024, rows, 65535], 65536);
+                    push(call, [9, rows, 3], 5);
                 }
             }
         }
@@ -238,6 +244,7 @@ fn loads(cases: &mut Vec<Case>) {
         cases.push(largest(Call::LoadBlock, [4095, 2048, 0]));
         cases.push(largest(Call::LoadTile, [1024, 512, 64]));
         cases.push(largest(Call::LoadTlut, [1024, 1024, 31]));
+        cases.push(largest(Call::LoadTlutRows, [1024, 1024, 31]));
     }
 }
 
