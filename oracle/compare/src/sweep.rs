@@ -1,7 +1,7 @@
 //! Cases by structure: every pair, mode and lane with the limits of the sizes, tiles that repeat, the limits of every load, small loads
 //! from sources of every length, with every kind of last number and of reason, and reasons about what a tile reaches.
-//! Runs of records: the limits of every number, several faults at a time, keys of tiles that repeat, sources at the companion's end, and
-//! loads over each other's bytes until no number is left.
+//! Runs of records: the limits of every number, several faults at a time, palettes about the pick between the two loads, keys of tiles that
+//! repeat, sources at the companion's end, and loads over each other's bytes until no number is left.
 use crate::capture::place::*;
 use crate::capture::{By, Companion, Record, Run, BLOCK, KEY, RECORD_BYTES, TILE, TLUT};
 use crate::case::{Call, Case, Fill};
@@ -423,6 +423,7 @@ pub fn runs(by: By) -> Vec<Run> {
         runs.push(run(limits(kind), 1000, 47));
         runs.push(run(faults(kind), 1000, 24));
     }
+    runs.push(run(palettes(), 1000, 0));
     runs.push(run(repeating_keys(), 5000, 0));
     runs.extend(ENDS.map(|end| run(sources(end), end, 0)));
     if by == By::Program {
@@ -485,6 +486,14 @@ fn faults(kind: u32) -> Vec<Record> {
     let choices = 0..1 << FAULTS.len();
     let chosen = |choice: u32| (0..FAULTS.len()).filter(move |i| choice >> i & 1 == 1);
     choices.map(|choice| plain(kind, &chosen(choice).flat_map(|i| FAULTS[i]).copied().collect::<Vec<_>>())).collect()
+}
+
+/// Palettes about the pick between the two loads: of no row, one and several, and of every image size; and a key after each.
+fn palettes() -> Vec<Record> {
+    let pairs = (0..5).flat_map(|image_siz| (0..4).map(move |rows| (image_siz, rows)));
+    let numbers =
+        pairs.flat_map(|(image_siz, rows)| (0..4).map(move |siz| [(IMAGE_SIZ, image_siz), (ROWS, rows), (SIZ, siz)]));
+    numbers.flat_map(|numbers| [plain(TLUT, &numbers), plain(KEY, &[])]).collect()
 }
 
 /// A bank full of bytes, and then keys of tiles that repeat.
