@@ -423,19 +423,29 @@ static void choose_last(void) {
     now.last = one_in(2) ? up_to(65534) : limits[up_to(4)] - up_to(1);
 }
 
-/* Puts one number outside its range, or anywhere. */
+/* The most that each load takes of its own numbers. */
+static const uint32_t own_most[][3] = {[LOAD_BLOCK] = {4095, 2048},
+                                       [LOAD_TILE] = {1024, 512, 65535},
+                                       [LOAD_TLUT_HARDWARE] = {1024, 1, 65535},
+                                       [LOAD_TLUT_ROWS] = {1024, 1024, 65535}};
+
+/* Puts one number at its limit, outside its range, or anywhere. */
 static void break_one(void) {
+    enum { OWN = 14 };
     static const uint32_t most[19] = {
-        7, 3, 15, 3, 3, 3, 15, 15, 511, 511, TK_SIDE_MOST, TK_SIDE_MOST, 3, 3, 4095, 2048, 65535, TK_REASON_MOST, 65534};
+        7, 3, 15, 3, 3, 3, 15, 15, 511, 511, TK_SIDE_MOST, TK_SIDE_MOST, 3, 3, 0, 0, 0, TK_REASON_MOST, 65534};
     uint32_t *numbers[19] = {&now.tile.fmt,   &now.tile.siz,    &now.tile.palette, &now.tile.mode, &now.tile.cms,
                              &now.tile.cmt,   &now.tile.masks,  &now.tile.maskt,   &now.tile.line, &now.tile.tmem_addr,
                              &now.tile.width, &now.tile.height, &now.lane,         &now.image_siz, &now.numbers[0],
                              &now.numbers[1], &now.numbers[2],  &now.reason,       &now.last};
     uint32_t i = one_in(6) ? 17 + up_to(1) : up_to(18);
-    switch (up_to(3)) {
-        case 0: *numbers[i] = most[i] + 1; break;
-        case 1: *numbers[i] = UINT32_MAX; break;
-        case 2: *numbers[i] = 0; break;
+    bool is_own = (entries[now.does].takes & TAKES_LOAD) && i >= OWN && i < OWN + 3;
+    uint32_t limit = is_own ? own_most[now.does][i - OWN] : most[i];
+    switch (up_to(4)) {
+        case 0: *numbers[i] = limit; break;
+        case 1: *numbers[i] = limit + 1; break;
+        case 2: *numbers[i] = UINT32_MAX; break;
+        case 3: *numbers[i] = 0; break;
         default: *numbers[i] = any_number();
     }
 }
