@@ -92,8 +92,10 @@ fn the_narrower_ranges_are_tested_with_the_others() {
     assert_eq!(bank.reject_tlut_rows(&[], &PLACE, 2, 1, 0, 0, 0), Err(Refusal::Load));
 }
 
-/// The first byte of what each load leaves in groups of eight, by its address.
-fn eights(bank: &Bank) -> Vec<(usize, u8)> {
+/// The address of eight bytes that were stored together, and the first of them.
+type Eight = (usize, u8);
+
+fn eights(bank: &Bank) -> Vec<Eight> {
     let starts = (0..4096).step_by(8).filter(|&start| bank.written().is_written(start));
     starts.map(|start| (start, bank.bytes()[start])).collect()
 }
@@ -101,7 +103,7 @@ fn eights(bank: &Bank) -> Vec<(usize, u8)> {
 #[test]
 fn one_row_goes_by_steps_or_by_entries() {
     // siz, image size and count, and where the hardware puts which byte of the source.
-    let cases: [(u32, u32, u32, &[(usize, u8)]); 9] = [
+    let cases: [(u32, u32, u32, &[Eight]); 9] = [
         (0, 2, 3, &[(16, 1), (24, 3), (32, 5)]),
         (1, 2, 3, &[(16, 1), (32, 3), (48, 5)]),
         (2, 2, 3, &[(16, 1), (48, 3), (80, 5)]),
