@@ -174,8 +174,8 @@ typedef struct tk_tile {
 
 /* A load stores bytes of the source into the bank. At each address where it stores it sets the written record to its number, and
  * the reasons to 0. The source has 0 to 65,536 bytes; past its end zeros are made up. Of the tile a load takes fmt, siz, line and
- * tmem_addr. image_siz, 0..3, is the size of the image that is loaded from. On odd rows the two halves of each word change
- * places, as making a picture expects.
+ * tmem_addr. image_siz is the size of the image that is loaded from: 0..3, and for tk_load_tlut_hardware 1..3. On odd rows the two
+ * halves of each word change places, as making a picture expects.
  *
  * The written record holds for each address the number of the last load that stored there, 0 for none: bytes 2 a and 2 a + 1 for
  * address a, high byte first. tk_written_by reads it. An address counts as written when its number is not 0.
@@ -206,18 +206,24 @@ tk_load_answer tk_load_block(TK_LOAD_PARAMETERS, uint32_t dxt, uint32_t words, u
 /* rows: 0..1,024. words: 0..512, of eight bytes, in each row. stride: 0..65,535 source bytes from row to row. */
 tk_load_answer tk_load_tile(TK_LOAD_PARAMETERS, uint32_t rows, uint32_t words, uint32_t stride, uint32_t last);
 
-/* A palette: an entry of two bytes is stored four times over. count: 0..1,024 entries a row. rows: 1..1,024. stride:
- * 0..65,535 source bytes from row to row.
+/* Palettes: an entry of two bytes is stored four times over. count: 0..1,024 entries a row. stride: 0..65,535 source bytes from row
+ * to row.
  *
- * One row of an image of size 1, 2 or 3 goes step by step, as the hardware does it. With size 2 a step is an entry. Entries
- * then stand 8 bytes apart for siz 0, 16 for siz 1 and 32 for siz 2 and 3, and pairs (0,3) and (1,any) split them over both
- * halves of the bank: use siz 0, and not fmt 1, for a packed palette. With size 1 or 3 a step covers eight or two entries
- * and eight source bytes, and only its first entry is stored; with size 3 and siz 0 every second step overwrites the one
- * before it. Here line and stride have no effect.
- *
- * Several rows, or an image of size 0, store entry i of row r from byte 8 tmem_addr + 32 r line + 8 i on, wrapped at the
- * bank's end: rows step 32 line. Here fmt and siz have no effect. */
-tk_load_answer tk_load_tlut(TK_LOAD_PARAMETERS, uint32_t count, uint32_t rows, uint32_t stride, uint32_t last);
+ * Use tk_load_tlut_hardware for what the console's own load command does, and tk_load_tlut_rows for the defined extension, several
+ * rows or an image of size 0: a title that needs the second does something that the hardware's single load does not do, and so has
+ * stitched its palette from rows. */
+
+/* As the hardware does it: rows is 1, and image_siz 1..3. The source is gone through step by step. With size 2 a step is an entry.
+ * Entries then stand 8 bytes apart for siz 0, 16 for siz 1 and 32 for siz 2 and 3, and pairs (0,3) and (1,any) split them over both
+ * halves of the bank: use siz 0, and not fmt 1, for a packed palette. With size 1 or 3 a step covers eight or two entries and eight
+ * source bytes, and only its first entry is stored; with size 3 and siz 0 every second step overwrites the one before it. line and
+ * stride have no effect; a stride out of range is refused all the same. */
+tk_load_answer tk_load_tlut_hardware(TK_LOAD_PARAMETERS, uint32_t count, uint32_t rows, uint32_t stride, uint32_t last);
+
+/* By rows: 1..1,024 of them. Entry i of row r is stored from byte 8 tmem_addr + 32 r line + 8 i on, wrapped at the bank's end: rows
+ * step 32 line. fmt, siz and image_siz have no effect, so that one row of an image of size 1, 2 or 3 is stored like any other row,
+ * and not as the hardware does it; out of range they are refused all the same. */
+tk_load_answer tk_load_tlut_rows(TK_LOAD_PARAMETERS, uint32_t count, uint32_t rows, uint32_t stride, uint32_t last);
 
 /* ---- Rejected loads ------------------------------------------------------------------------------------------------- */
 
@@ -235,8 +241,11 @@ tk_load_answer tk_reject_block(TK_LOAD_PARAMETERS, uint32_t dxt, uint32_t words,
 tk_load_answer tk_reject_tile(TK_LOAD_PARAMETERS, uint32_t rows, uint32_t words, uint32_t stride, uint32_t reason,
                               uint32_t last);
 
-tk_load_answer tk_reject_tlut(TK_LOAD_PARAMETERS, uint32_t count, uint32_t rows, uint32_t stride, uint32_t reason,
-                              uint32_t last);
+tk_load_answer tk_reject_tlut_hardware(TK_LOAD_PARAMETERS, uint32_t count, uint32_t rows, uint32_t stride, uint32_t reason,
+                                       uint32_t last);
+
+tk_load_answer tk_reject_tlut_rows(TK_LOAD_PARAMETERS, uint32_t count, uint32_t rows, uint32_t stride, uint32_t reason,
+                                   uint32_t last);
 
 /* Whether the tile touches bytes of a rejected load, and why that was rejected: the reason at the first address that has one, 0
  * where none has. The addresses are asked in this order:
@@ -368,7 +377,8 @@ tk_answer tk_key(const uint8_t *bank, size_t bank_length, TK_TILE_PARAMETERS, ui
  *
  * A load takes fmt, siz, line, tmem_addr, image_siz, offset and length; and dxt and words (block), rows, words and stride
  * (tile) or count, rows and stride (palette). A key takes lane and bytes 2 to 17. Fields that a kind does not take, and bytes
- * of `record` after the 48th, may hold anything.
+ * of `record` after the 48th, may hold anything. A palette of one row and an image size above 0 is loaded as tk_load_tlut_hardware
+ * does it, any other as tk_load_tlut_rows does.
  *
  * end: the bytes of the companion file. part: its bytes from the record's offset on. The first `length` of them are the
  * source; further ones are not read. A key needs no part.
@@ -444,9 +454,14 @@ static inline tk_load_answer tk_load_tile_of(TK_LOAD_OF_PARAMETERS, uint32_t row
     return tk_load_tile(TK_LOAD_OF_ARGUMENTS, rows, words, stride, last);
 }
 
-static inline tk_load_answer tk_load_tlut_of(TK_LOAD_OF_PARAMETERS, uint32_t count, uint32_t rows, uint32_t stride,
-                                             uint32_t last) {
-    return tk_load_tlut(TK_LOAD_OF_ARGUMENTS, count, rows, stride, last);
+static inline tk_load_answer tk_load_tlut_hardware_of(TK_LOAD_OF_PARAMETERS, uint32_t count, uint32_t rows, uint32_t stride,
+                                                      uint32_t last) {
+    return tk_load_tlut_hardware(TK_LOAD_OF_ARGUMENTS, count, rows, stride, last);
+}
+
+static inline tk_load_answer tk_load_tlut_rows_of(TK_LOAD_OF_PARAMETERS, uint32_t count, uint32_t rows, uint32_t stride,
+                                                  uint32_t last) {
+    return tk_load_tlut_rows(TK_LOAD_OF_ARGUMENTS, count, rows, stride, last);
 }
 
 static inline tk_load_answer tk_reject_block_of(TK_LOAD_OF_PARAMETERS, uint32_t dxt, uint32_t words, uint32_t reason,
@@ -459,9 +474,14 @@ static inline tk_load_answer tk_reject_tile_of(TK_LOAD_OF_PARAMETERS, uint32_t r
     return tk_reject_tile(TK_LOAD_OF_ARGUMENTS, rows, words, stride, reason, last);
 }
 
-static inline tk_load_answer tk_reject_tlut_of(TK_LOAD_OF_PARAMETERS, uint32_t count, uint32_t rows, uint32_t stride,
-                                               uint32_t reason, uint32_t last) {
-    return tk_reject_tlut(TK_LOAD_OF_ARGUMENTS, count, rows, stride, reason, last);
+static inline tk_load_answer tk_reject_tlut_hardware_of(TK_LOAD_OF_PARAMETERS, uint32_t count, uint32_t rows,
+                                                        uint32_t stride, uint32_t reason, uint32_t last) {
+    return tk_reject_tlut_hardware(TK_LOAD_OF_ARGUMENTS, count, rows, stride, reason, last);
+}
+
+static inline tk_load_answer tk_reject_tlut_rows_of(TK_LOAD_OF_PARAMETERS, uint32_t count, uint32_t rows, uint32_t stride,
+                                                    uint32_t reason, uint32_t last) {
+    return tk_reject_tlut_rows(TK_LOAD_OF_ARGUMENTS, count, rows, stride, reason, last);
 }
 
 static inline tk_reason_answer tk_rejection_of(const tk_tile *tile, const uint8_t *reasons) {

@@ -226,14 +226,21 @@ impl Bench {
         println!("|---|---|---|---|---|---|");
         let block = Load::Block { dxt: 256, words: 2048 };
         let tile = Load::Tile { rows: 64, words: 16, stride: 128 };
-        let tlut = Load::Tlut { count: 256, rows: 1, stride: 512 };
+        let steps = Load::Tlut { count: 256, rows: 1, stride: 512 };
+        let row = Load::TlutRows { count: 256, rows: 1, stride: 512 };
+        let rows = Load::TlutRows { count: 16, rows: 16, stride: 32 };
         for (name, load) in [("block of 2,048 words", block), ("tile of 64 rows by 16 words", tile)] {
             for (fmt, siz, image_siz) in [(0, 2, 2), (0, 3, 3), (1, 2, 2), (4, 1, 1), (4, 0, 0)] {
                 self.load_row(name, load, fmt, siz, image_siz);
             }
         }
-        for image_siz in [2, 1, 0] {
-            self.load_row("TLUT of 256", tlut, 0, 2, image_siz);
+        for (name, load, image_siz) in [
+            ("TLUT of 256, hardware", steps, 2),
+            ("TLUT of 256, hardware", steps, 1),
+            ("TLUT of 256, row", row, 0),
+            ("TLUT of 16 rows by 16", rows, 2),
+        ] {
+            self.load_row(name, load, 0, 2, image_siz);
         }
     }
 
@@ -260,7 +267,13 @@ impl Bench {
                     }
                     Load::Tlut { count, rows, stride } => {
                         let (count, rows, stride) = (number(count), number(rows), number(stride));
-                        slices::load_tlut(bank, written, reasons, source, tile, image_siz, count, rows, stride, last)
+                        slices::load_tlut_hardware(
+                            bank, written, reasons, source, tile, image_siz, count, rows, stride, last,
+                        )
+                    }
+                    Load::TlutRows { count, rows, stride } => {
+                        let (count, rows, stride) = (number(count), number(rows), number(stride));
+                        slices::load_tlut_rows(bank, written, reasons, source, tile, image_siz, count, rows, stride, last)
                     }
                 })
                 .expect("in range");

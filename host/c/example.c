@@ -1,7 +1,7 @@
 /* An example: load a block, make a picture of it, write the picture as a file and read it back, cut the picture's key, and print
  * the bytes that the key keeps. Then load one word anew, and print which load each byte that the picture reads came from. Then do
- * a load whose source was rejected, and ask which tiles touch it. Then replay a capture of the first load and the key, and
- * split six captures of the tile. */
+ * a load whose source was rejected, and ask which tiles touch it. Then load a palette in each of the two ways. Then replay a capture
+ * of the first load and the key, and split six captures of the tile. */
 
 #include <inttypes.h>
 #include <stdio.h>
@@ -97,6 +97,20 @@ int main(void) {
     tk_reason_answer both = tk_rejection_of(&tile, reasons), first = tk_rejection_of(&first_row, reasons);
     if (refused("rejection", both.refusal) || refused("rejection", first.refusal)) return 1;
     printf("rejected: both rows for reason %" PRIu32 ", the first row for %" PRIu32 "\n", both.reason, first.reason);
+
+    /* A palette of two entries. In one row they are what the console's own load command takes. In two rows, eight source bytes apart,
+     * they are not: the hardware call refuses them, and the row call is the one to use. */
+    tk_tile palette = {0};
+    palette.line = 1; /* entries of the second row stand 32 bytes behind those of the first */
+    palette.tmem_addr = TK_PALETTE_BASE / 8;
+    loaded = tk_load_tlut_hardware_of(bank, written, reasons, source, sizeof source, &palette, 2, 2, 1, 8, loaded.number);
+    if (refused("palette", loaded.refusal)) return 1;
+    print_load(loaded);
+    loaded = tk_load_tlut_hardware_of(bank, written, reasons, source, sizeof source, &palette, 2, 1, 2, 8, loaded.number);
+    printf("two rows by the hardware call: refusal %" PRIu32 "\n", loaded.refusal);
+    loaded = tk_load_tlut_rows_of(bank, written, reasons, source, sizeof source, &palette, 2, 1, 2, 8, loaded.number);
+    if (refused("palette", loaded.refusal)) return 1;
+    print_load(loaded);
 
     /* A capture whose companion file is the source above. The bytes that a record does not name here are 0. */
     static const uint8_t capture[2][TK_RECORD_BYTES] = {

@@ -84,10 +84,10 @@ typedef struct memory {
 static const memory whole = {bank, sizeof bank, written, sizeof written, reasons, sizeof reasons, source, sizeof source};
 
 /* The loads; each is done as an ordinary one or as a rejected one. */
-enum { BLOCK, TILE, TLUT, LOADS };
+enum { BLOCK, TILE, TLUT_HARDWARE, TLUT_ROWS, LOADS };
 
 /* The numbers of a load: four of the tile, image_siz, its own, of which a block has two, and the last number; a reason before it. */
-enum { TILE_NUMBERS = 4, OWN = 5, THIRD = 7, REASON = 8, LAST = 9, NUMBERS = 10 };
+enum { TILE_NUMBERS = 4, THIRD = 7, REASON = 8, LAST = 9, NUMBERS = 10 };
 
 static tk_load_answer load(memory m, int kind, int is_rejected, const uint32_t *n) {
 #define FRONT                                                                                                         \
@@ -98,31 +98,44 @@ static tk_load_answer load(memory m, int kind, int is_rejected, const uint32_t *
         case 2 * BLOCK + 1: return tk_reject_block(FRONT, n[5], n[6], n[8], n[9]);
         case 2 * TILE: return tk_load_tile(FRONT, n[5], n[6], n[7], n[9]);
         case 2 * TILE + 1: return tk_reject_tile(FRONT, n[5], n[6], n[7], n[8], n[9]);
-        case 2 * TLUT: return tk_load_tlut(FRONT, n[5], n[6], n[7], n[9]);
-        default: return tk_reject_tlut(FRONT, n[5], n[6], n[7], n[8], n[9]);
+        case 2 * TLUT_HARDWARE: return tk_load_tlut_hardware(FRONT, n[5], n[6], n[7], n[9]);
+        case 2 * TLUT_HARDWARE + 1: return tk_reject_tlut_hardware(FRONT, n[5], n[6], n[7], n[8], n[9]);
+        case 2 * TLUT_ROWS: return tk_load_tlut_rows(FRONT, n[5], n[6], n[7], n[9]);
+        default: return tk_reject_tlut_rows(FRONT, n[5], n[6], n[7], n[8], n[9]);
     }
 #undef FRONT
 }
 
-/* Numbers that each load takes, and the most that it takes of each. */
-static const uint32_t usual[LOADS][NUMBERS] = {
-    {0, 2, 1, 2, 2, 1, 2, 0, 9, 6}, {0, 2, 1, 2, 2, 1, 2, 8, 9, 6}, {0, 2, 1, 2, 2, 4, 2, 8, 9, 6}};
+/* Numbers that each load takes, and the least and the most that it takes of each. */
+static const uint32_t usual[LOADS][NUMBERS] = {{0, 2, 1, 2, 2, 1, 2, 0, 9, 6},
+                                               {0, 2, 1, 2, 2, 1, 2, 8, 9, 6},
+                                               {0, 2, 1, 2, 2, 4, 1, 8, 9, 6},
+                                               {0, 2, 1, 2, 2, 4, 2, 8, 9, 6}};
+static const uint32_t load_least[LOADS][NUMBERS] = {{0, 0, 0, 0, 0, 0, 0, 0, 1, 0},
+                                                    {0, 0, 0, 0, 0, 0, 0, 0, 1, 0},
+                                                    {0, 0, 0, 0, 1, 0, 1, 0, 1, 0},
+                                                    {0, 0, 0, 0, 0, 0, 1, 0, 1, 0}};
 static const uint32_t load_most[LOADS][NUMBERS] = {
     {7, 3, 511, 511, 3, 4095, 2048, 0, TK_REASON_MOST, TK_LOADS_MOST - 1},
     {7, 3, 511, 511, 3, 1024, 512, 65535, TK_REASON_MOST, TK_LOADS_MOST - 1},
+    {7, 3, 511, 511, 3, 1024, 1, 65535, TK_REASON_MOST, TK_LOADS_MOST - 1},
     {7, 3, 511, 511, 3, 1024, 1024, 65535, TK_REASON_MOST, TK_LOADS_MOST - 1}};
 
-/* Each number of a load at its limit; then one past it and with all 32 bits set, which is answered alike beside a bad reason and a bad
- * last number, where these are tested later. */
+/* Each number of a load at its limits; then on both sides of them and with all 32 bits set, which is answered alike beside a bad reason
+ * and a bad last number, where these are tested later. */
 static void check_load(int kind, int is_rejected) {
     for (size_t i = 0; i < NUMBERS; i++) {
         if ((i == THIRD && kind == BLOCK) || (i == REASON && !is_rejected)) continue;
         uint32_t n[NUMBERS], refusal = i < TILE_NUMBERS ? 2 : i < REASON ? 4 : i == REASON ? 19 : 18;
+        uint32_t least = load_least[kind][i], most = load_most[kind][i];
+        const uint32_t good[] = {least, most}, bad[] = {least - 1, most + 1, UINT32_MAX};
         memcpy(n, usual[kind], sizeof n);
-        n[i] = load_most[kind][i];
-        CHECK(answers(load(whole, kind, is_rejected, n), 0, n[LAST] + 1));
-        const uint32_t bad[] = {n[i] + 1, UINT32_MAX};
         for (size_t k = 0; k < 2; k++) {
+            n[i] = good[k];
+            CHECK(answers(load(whole, kind, is_rejected, n), 0, n[LAST] + 1));
+        }
+        for (size_t k = 0; k < 3; k++) {
+            memcpy(n, usual[kind], sizeof n);
             n[i] = bad[k];
             CHECK(answers(load(whole, kind, is_rejected, n), refusal, n[LAST]));
             if (i < REASON) n[REASON] = 0;
@@ -132,22 +145,10 @@ static void check_load(int kind, int is_rejected) {
     }
 }
 
-/* All loads; and at 0 and 1 the numbers that may not be 0: a reason, and the rows of a palette. */
 static void check_loads(void) {
     for (int kind = 0; kind < LOADS; kind++) {
-        uint32_t n[NUMBERS];
-        memcpy(n, usual[kind], sizeof n);
         check_load(kind, 0);
         check_load(kind, 1);
-        n[REASON] = 1;
-        CHECK(answers(load(whole, kind, 1, n), 0, n[LAST] + 1));
-        n[REASON] = 0;
-        CHECK(answers(load(whole, kind, 1, n), 19, n[LAST]));
-        CHECK(answers(load(whole, kind, 0, n), 0, n[LAST] + 1));
-        if (kind != TLUT) continue;
-        n[OWN + 1] = 0;
-        CHECK(answers(load(whole, kind, 0, n), 4, n[LAST]));
-        CHECK(answers(load(whole, kind, 1, n), 4, n[LAST]));
     }
 }
 
@@ -434,7 +435,7 @@ static void check_load_answers(void) {
     CHECK(bank[16] == 100 && bank[23] == 107 && written_from(16, 24, 1) && written[33] == 1 && reasoned_from(16, 24, 0));
     CHECK(loaded(tk_load_tile_of(bank, written, reasons, source, sizeof source, &load, 2, 2, 1, 16, 1), 16, 0, 2));
     CHECK(bank[16] == 100 && bank[28] == 116 && written_from(16, 32, 2) && reasoned_from(16, 32, 0));
-    CHECK(loaded(tk_load_tlut_of(bank, written, reasons, source, sizeof source, &load, 0, 2, 2, 16, 255), 32, 0, 256));
+    CHECK(loaded(tk_load_tlut_rows_of(bank, written, reasons, source, sizeof source, &load, 0, 2, 2, 16, 255), 32, 0, 256));
     CHECK(bank[16] == 100 && bank[24] == 102 && bank[48] == 116 && bank[56] == 118);
     CHECK(written_from(16, 32, 256) && written_from(48, 64, 256) && written[32] == 1 && written[33] == 0);
     CHECK(reasoned_from(16, 32, 0) && reasoned_from(48, 64, 0));
@@ -444,11 +445,10 @@ static void check_load_answers(void) {
     CHECK(bank[20] == 104 && bank[21] == 0 && written_from(16, 24, 257) && written_from(24, 32, 256));
     CHECK(loaded(tk_load_tile_of(bank, written, reasons, source, 22, &load, 2, 2, 1, 16, 65533), 16, 2, 65534));
     CHECK(bank[25] == 121 && bank[26] == 0 && written_from(16, 32, 65534));
-    CHECK(loaded(tk_load_tlut_of(bank, written, reasons, source, 19, &load, 0, 2, 2, 16, 65534), 32, 4, 65535));
+    CHECK(loaded(tk_load_tlut_rows_of(bank, written, reasons, source, 19, &load, 0, 2, 2, 16, 65534), 32, 4, 65535));
     CHECK(bank[62] == 118 && bank[63] == 0 && written_from(16, 32, 65535) && written_from(48, 64, 65535));
-    CHECK(loaded(tk_load_tlut_of(bank, written, reasons, source, 3, &load, 2, 2, 1, 0, 7), 16, 4, 8));
-    CHECK(answers(tk_load_tlut_of(bank, written, reasons, source, 3, &load, 2, 2, 0, 0, 65535), 4, 65535));
-    CHECK(answers(tk_load_tlut_of(bank, written, reasons, source, 3, &load, 2, 2, 1, 0, UINT32_MAX), 18, UINT32_MAX));
+    CHECK(loaded(tk_load_tlut_hardware_of(bank, written, reasons, source, 3, &load, 2, 2, 1, 0, 7), 16, 4, 8));
+    CHECK(bank[48] == 102 && bank[49] == 0 && written_from(16, 24, 8) && written_from(48, 56, 8));
     CHECK(tk_written_by(written, TK_BANK_BYTES) == 0 && tk_written_by(written, UINT32_MAX) == 0);
 
     /* Rejected they store, count and number alike, and leave their reason. */
@@ -457,11 +457,40 @@ static void check_load_answers(void) {
     CHECK(loaded(tk_reject_tile_of(bank, written, reasons, source, 22, &load, 2, 2, 1, 16, 255, 65533), 16, 2, 65534));
     CHECK(bank[28] == 116 && bank[25] == 121 && bank[26] == 0 && written_from(16, 32, 65534));
     CHECK(reasoned_from(16, 32, 255) && reasons[48] == 0 && reasons[64] == 77);
-    CHECK(loaded(tk_reject_tlut_of(bank, written, reasons, source, 19, &load, 0, 2, 2, 16, 128, 65534), 32, 4, 65535));
+    CHECK(loaded(tk_reject_tlut_rows_of(bank, written, reasons, source, 19, &load, 0, 2, 2, 16, 128, 65534), 32, 4, 65535));
     CHECK(bank[62] == 118 && bank[63] == 0 && written_from(16, 32, 65535) && written_from(48, 64, 65535));
     CHECK(reasoned_from(16, 32, 128) && reasoned_from(48, 64, 128));
-    CHECK(answers(tk_reject_tlut_of(bank, written, reasons, source, 19, &load, 0, 2, 2, 16, 256, 7), 19, 7));
+    CHECK(answers(tk_reject_tlut_rows_of(bank, written, reasons, source, 19, &load, 0, 2, 2, 16, 256, 7), 19, 7));
     CHECK(reasoned_from(16, 32, 128) && written_from(16, 32, 65535));
+    CHECK(loaded(tk_reject_tlut_hardware_of(bank, written, reasons, source, 3, &load, 2, 2, 1, 0, 9, 7), 16, 4, 8));
+    CHECK(bank[48] == 102 && bank[49] == 0 && written_from(48, 56, 8) && reasoned_from(16, 24, 9) &&
+          reasoned_from(48, 56, 9));
+}
+
+/* Nine entries in one row, which both palette loads take. By rows they stand 8 bytes apart, whatever the image's size is. The hardware
+ * stores one entry a step: of size 2 all nine, of size 1 the first and the ninth, of size 3 every second one. For siz 2 they stand 64,
+ * 32 and 16 bytes apart for sizes 1, 2 and 3. Each source ends behind the first byte of the last entry. */
+static void check_palette_answers(int is_rejected) {
+    static const uint32_t steps[] = {2, 9, 5}, advances[] = {8, 2, 8};
+    uint8_t reason = is_rejected ? 7 : 0;
+    memory m = whole;
+    for (uint32_t size = 1; size <= 3; size++) {
+        uint32_t stored = steps[size - 1], advance = advances[size - 1], n[NUMBERS] = {0, 2, 1, 2, size, 9, 1, 5, 7, 4};
+        memset(written, 0, sizeof written);
+        memset(reasons, 77, sizeof reasons);
+        m.source_length = (stored - 1) * advance + 1;
+        CHECK(loaded(load(m, TLUT_HARDWARE, is_rejected, n), 8 * stored, 4, 5));
+        for (uint32_t i = 0; i < stored; i++) {
+            uint32_t at = 16 + i * (128u >> size), second = i + 1 < stored ? 101 + i * advance : 0;
+            CHECK(bank[at] == 100 + i * advance && bank[at + 7] == second);
+            CHECK(written_from(at, at + 8, 5) && reasoned_from(at, at + 8, reason));
+        }
+        m.source_length = 17;
+        n[LAST] = 5;
+        CHECK(loaded(load(m, TLUT_ROWS, is_rejected, n), 72, 4, 6));
+        CHECK(bank[16] == 100 && bank[24] == 102 && bank[80] == 116 && bank[81] == 0 && bank[87] == 0);
+        CHECK(written_from(16, 88, 6) && reasoned_from(16, 88, reason));
+    }
 }
 
 /* Whether a record is not refused, and answers a count and a number. */
@@ -469,13 +498,16 @@ static int replayed(tk_replay_answer answer, uint32_t count, uint32_t number) {
     return answer.refusal == 0 && answer.count == count && answer.number == number;
 }
 
-/* The same loads by records, with sources at offsets of the companion; and keys of two tiles of check_answers. */
+/* The same loads by records, with sources at offsets of the companion, of palettes one by rows and one step by step; and keys of two
+ * tiles of check_answers. */
 static void check_replay(void) {
     static const uint8_t block[TK_RECORD_BYTES] = {[0] = 0, [3] = 2, [11] = 1, [13] = 2, [19] = 2, [23] = 1, [37] = 8};
     static const uint8_t tile[TK_RECORD_BYTES] = {
         [0] = 1, [3] = 2, [11] = 1, [13] = 2, [19] = 2, [23] = 1, [25] = 2, [29] = 16, [33] = 1, [37] = 20};
-    static const uint8_t tlut[TK_RECORD_BYTES] = {
+    static const uint8_t tlut_rows[TK_RECORD_BYTES] = {
         [0] = 2, [3] = 2, [11] = 1, [13] = 2, [19] = 0, [25] = 2, [27] = 2, [29] = 16, [33] = 2, [37] = 20};
+    static const uint8_t tlut_hardware[TK_RECORD_BYTES] = {
+        [0] = 2, [3] = 2, [11] = 1, [13] = 2, [19] = 2, [25] = 1, [27] = 2, [29] = 16, [33] = 3, [37] = 20};
     static const uint8_t key_of_tile[TK_RECORD_BYTES] = {3, 0, 4, 1, 1, 1, 2, 2, 1, 1, 0, 1, 0, 2, 0, 3, 0, 2};
     static const uint8_t key_of_repeating[TK_RECORD_BYTES] = {3, 0, 4, 1, 1, 1, 0, 2, 1, 1, 0, 1, 0, 2, 0, 3, 0, 2};
     memset(bank, 0, sizeof bank);
@@ -487,16 +519,21 @@ static void check_replay(void) {
                    2));
     CHECK(bank[16] == 101 && bank[28] == 117 && written_from(16, 32, 2));
     CHECK(bank[31] == 120 && bank[24] == 0); /* the source ends inside the second row */
-    CHECK(replayed(tk_replay_record_of(bank, written, reasons, tlut, sizeof source, source + 2, sizeof source - 2, 65534),
-                   32, 65535));
+    CHECK(replayed(
+        tk_replay_record_of(bank, written, reasons, tlut_rows, sizeof source, source + 2, sizeof source - 2, 65534), 32,
+        65535));
     CHECK(bank[16] == 102 && bank[24] == 104 && bank[48] == 118 && bank[56] == 120);
     CHECK(written_from(16, 32, 65535) && written_from(48, 64, 65535));
     CHECK(reasoned_from(16, 32, 0) && reasoned_from(48, 64, 0));
+    CHECK(replayed(
+        tk_replay_record_of(bank, written, reasons, tlut_hardware, sizeof source, source + 3, sizeof source - 3, 7), 16,
+        8));
+    CHECK(bank[16] == 103 && bank[48] == 105 && written_from(16, 24, 8) && written_from(48, 56, 8));
     uint8_t before[TK_BANK_BYTES];
     memcpy(before, bank, sizeof bank);
     CHECK(replayed(tk_replay_record_of(bank, written, reasons, key_of_tile, 0, NULL, 0, 65535), 6, 65535));
     CHECK(replayed(tk_replay_record_of(bank, written, reasons, key_of_repeating, 0, NULL, 0, UINT32_MAX), 4, UINT32_MAX));
-    CHECK(memcmp(before, bank, sizeof bank) == 0 && written_from(16, 32, 65535) && reasoned_from(16, 32, 0));
+    CHECK(memcmp(before, bank, sizeof bank) == 0 && written_from(24, 32, 65535) && reasoned_from(16, 32, 0));
 }
 
 /* The count is taken up to its limit and refused past it, whatever the lengths are; each length must be the right one. */
@@ -585,6 +622,8 @@ int main(void) {
     check_record();
     check_answers();
     check_load_answers();
+    check_palette_answers(0);
+    check_palette_answers(1);
     check_replay();
     check_split_lengths();
     check_split_answers();

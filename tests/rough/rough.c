@@ -111,10 +111,12 @@ static void lend(buffer *b, size_t length) {
 enum {
     LOAD_BLOCK,
     LOAD_TILE,
-    LOAD_TLUT,
+    LOAD_TLUT_HARDWARE,
+    LOAD_TLUT_ROWS,
     REJECT_BLOCK,
     REJECT_TILE,
-    REJECT_TLUT,
+    REJECT_TLUT_HARDWARE,
+    REJECT_TLUT_ROWS,
     SAMPLING,
     SAMPLE_TILE,
     SAMPLE_TILE_OBSERVED,
@@ -134,10 +136,12 @@ enum {
 
 static const char *const entry_names[ENTRIES] = {"tk_load_block",
                                                  "tk_load_tile",
-                                                 "tk_load_tlut",
+                                                 "tk_load_tlut_hardware",
+                                                 "tk_load_tlut_rows",
                                                  "tk_reject_block",
                                                  "tk_reject_tile",
-                                                 "tk_reject_tlut",
+                                                 "tk_reject_tlut_hardware",
+                                                 "tk_reject_tlut_rows",
                                                  "tk_sampling",
                                                  "tk_sample_tile",
                                                  "tk_sample_tile_observed",
@@ -178,10 +182,12 @@ static const struct {
 } entries[ENTRIES] = {
     [LOAD_BLOCK] = {TAKES_LOAD_FIELDS | TAKES_LOAD, 1 << SOURCE, LOADED},
     [LOAD_TILE] = {TAKES_LOAD_FIELDS | TAKES_LOAD, 1 << SOURCE, LOADED},
-    [LOAD_TLUT] = {TAKES_LOAD_FIELDS | TAKES_LOAD, 1 << SOURCE, LOADED},
+    [LOAD_TLUT_HARDWARE] = {TAKES_LOAD_FIELDS | TAKES_LOAD, 1 << SOURCE, LOADED},
+    [LOAD_TLUT_ROWS] = {TAKES_LOAD_FIELDS | TAKES_LOAD, 1 << SOURCE, LOADED},
     [REJECT_BLOCK] = {TAKES_LOAD_FIELDS | TAKES_LOAD | TAKES_REASON, 1 << SOURCE, LOADED},
     [REJECT_TILE] = {TAKES_LOAD_FIELDS | TAKES_LOAD | TAKES_REASON, 1 << SOURCE, LOADED},
-    [REJECT_TLUT] = {TAKES_LOAD_FIELDS | TAKES_LOAD | TAKES_REASON, 1 << SOURCE, LOADED},
+    [REJECT_TLUT_HARDWARE] = {TAKES_LOAD_FIELDS | TAKES_LOAD | TAKES_REASON, 1 << SOURCE, LOADED},
+    [REJECT_TLUT_ROWS] = {TAKES_LOAD_FIELDS | TAKES_LOAD | TAKES_REASON, 1 << SOURCE, LOADED},
     [SAMPLING] = {TAKES_TILE, 0, 0},
     [SAMPLE_TILE] = {TAKES_TILE | TAKES_LANE | TAKES_PAIR | TAKES_PICTURE, 1 << BANK, 1 << PICTURE},
     [SAMPLE_TILE_OBSERVED] = {TAKES_TILE | TAKES_LANE | TAKES_PAIR | TAKES_PICTURE | TAKES_TRAIL, 1 << BANK,
@@ -200,8 +206,8 @@ static const struct {
     [SPLIT] = {TAKES_COUNT, 1 << TO_SPLIT, 1 << SIDES},
 };
 
-/* What a record asks for, by its kind. */
-static const int asked_for[4] = {LOAD_BLOCK, LOAD_TILE, LOAD_TLUT, CUT_KEY};
+/* What a record asks for, by its kind. Of the two palette loads its numbers pick one in the end. */
+static const int asked_for[4] = {LOAD_BLOCK, LOAD_TILE, LOAD_TLUT_ROWS, CUT_KEY};
 
 static struct {
     int entry, does; /* what it does: the entry's own work, what its record asks for, or the load that is rejected */
@@ -296,7 +302,9 @@ static bool load_outside(void) {
     if (now.image_siz > 3 || source_length > 65536) return true;
     if (now.does == LOAD_BLOCK) return n[0] > 4095 || n[1] > 2048;
     if (now.does == LOAD_TILE) return n[0] > 1024 || n[1] > 512 || n[2] > 65535;
-    return n[0] > 1024 || n[1] < 1 || n[1] > 1024 || n[2] > 65535;
+    bool is_hardware = now.does == LOAD_TLUT_HARDWARE;
+    if (is_hardware && now.image_siz == 0) return true;
+    return n[0] > 1024 || n[1] < 1 || n[1] > (is_hardware ? 1 : 1024) || n[2] > 65535;
 }
 
 static bool source_beyond(void) {
@@ -400,6 +408,10 @@ static void choose_load(void) {
             now.numbers[1] = one_in(2) ? 1 : 1 + up_to(many ? 40 : 3);
             now.numbers[2] = up_to(stride_most);
     }
+    if (now.does == LOAD_TLUT_HARDWARE && !one_in(8)) { /* now and then it gets what the other palette load takes */
+        now.image_siz = 1 + up_to(2);
+        now.numbers[1] = 1;
+    }
 }
 
 /* A reason that is taken, at the limits as often as not. */
@@ -411,19 +423,29 @@ static void choose_last(void) {
     now.last = one_in(2) ? up_to(65534) : limits[up_to(4)] - up_to(1);
 }
 
-/* Puts one number outside its range, or anywhere. */
+/* The most that each load takes of its own numbers. */
+static const uint32_t own_most[][3] = {[LOAD_BLOCK] = {4095, 2048},
+                                       [LOAD_TILE] = {1024, 512, 65535},
+                                       [LOAD_TLUT_HARDWARE] = {1024, 1, 65535},
+                                       [LOAD_TLUT_ROWS] = {1024, 1024, 65535}};
+
+/* Puts one number at its limit, outside its range, or anywhere. */
 static void break_one(void) {
+    enum { OWN = 14 };
     static const uint32_t most[19] = {
-        7, 3, 15, 3, 3, 3, 15, 15, 511, 511, TK_SIDE_MOST, TK_SIDE_MOST, 3, 3, 4095, 2048, 65535, TK_REASON_MOST, 65534};
+        7, 3, 15, 3, 3, 3, 15, 15, 511, 511, TK_SIDE_MOST, TK_SIDE_MOST, 3, 3, 0, 0, 0, TK_REASON_MOST, 65534};
     uint32_t *numbers[19] = {&now.tile.fmt,   &now.tile.siz,    &now.tile.palette, &now.tile.mode, &now.tile.cms,
                              &now.tile.cmt,   &now.tile.masks,  &now.tile.maskt,   &now.tile.line, &now.tile.tmem_addr,
                              &now.tile.width, &now.tile.height, &now.lane,         &now.image_siz, &now.numbers[0],
                              &now.numbers[1], &now.numbers[2],  &now.reason,       &now.last};
     uint32_t i = one_in(6) ? 17 + up_to(1) : up_to(18);
-    switch (up_to(3)) {
-        case 0: *numbers[i] = most[i] + 1; break;
-        case 1: *numbers[i] = UINT32_MAX; break;
-        case 2: *numbers[i] = 0; break;
+    bool is_own = (entries[now.does].takes & TAKES_LOAD) && i >= OWN && i < OWN + 3;
+    uint32_t limit = is_own ? own_most[now.does][i - OWN] : most[i];
+    switch (up_to(4)) {
+        case 0: *numbers[i] = limit; break;
+        case 1: *numbers[i] = limit + 1; break;
+        case 2: *numbers[i] = UINT32_MAX; break;
+        case 3: *numbers[i] = 0; break;
         default: *numbers[i] = any_number();
     }
 }
@@ -479,6 +501,7 @@ static void choose_record(void) {
     memcpy(&now.tile, tile, sizeof tile);
     move(chosen && load, &now.image_siz, 18, 2);
     for (size_t i = 0; load && i < 3; i++) move(chosen, &now.numbers[i], number_places[now.kind][i], 2);
+    if (now.does == LOAD_TLUT_ROWS && now.numbers[1] == 1 && now.image_siz > 0) now.does = LOAD_TLUT_HARDWARE;
     move(chosen && load, &now.offset, 30, 4);
     move(chosen && load, &now.length, 34, 4);
     if (one_in(16)) now.kind = 4 + up_to(251);
@@ -704,10 +727,16 @@ static void make_call(void) {
     switch (now.entry) {
         case LOAD_BLOCK: set_load_answer(tk_load_block(LOAD_FRONT, n[0], n[1], now.last)); break;
         case LOAD_TILE: set_load_answer(tk_load_tile(LOAD_FRONT, n[0], n[1], n[2], now.last)); break;
-        case LOAD_TLUT: set_load_answer(tk_load_tlut(LOAD_FRONT, n[0], n[1], n[2], now.last)); break;
+        case LOAD_TLUT_HARDWARE: set_load_answer(tk_load_tlut_hardware(LOAD_FRONT, n[0], n[1], n[2], now.last)); break;
+        case LOAD_TLUT_ROWS: set_load_answer(tk_load_tlut_rows(LOAD_FRONT, n[0], n[1], n[2], now.last)); break;
         case REJECT_BLOCK: set_load_answer(tk_reject_block(LOAD_FRONT, n[0], n[1], now.reason, now.last)); break;
         case REJECT_TILE: set_load_answer(tk_reject_tile(LOAD_FRONT, n[0], n[1], n[2], now.reason, now.last)); break;
-        case REJECT_TLUT: set_load_answer(tk_reject_tlut(LOAD_FRONT, n[0], n[1], n[2], now.reason, now.last)); break;
+        case REJECT_TLUT_HARDWARE:
+            set_load_answer(tk_reject_tlut_hardware(LOAD_FRONT, n[0], n[1], n[2], now.reason, now.last));
+            break;
+        case REJECT_TLUT_ROWS:
+            set_load_answer(tk_reject_tlut_rows(LOAD_FRONT, n[0], n[1], n[2], now.reason, now.last));
+            break;
         case SAMPLING: {
             tk_sampling_answer given = tk_sampling(TK_TILE_ARGUMENTS(t));
             answer.refusal = given.refusal;
@@ -793,8 +822,8 @@ static walk load_walk(void) {
     const uint32_t *n = now.numbers;
     if (now.does == LOAD_BLOCK) return (walk){n[1], 8, 8, 1};
     if (now.does == LOAD_TILE) return (walk){n[0], 8 * n[1], n[2], 1};
-    bool in_steps = n[1] == 1 && (now.image_siz == 1 || now.image_siz == 3);
-    if (!in_steps) return (walk){n[1], 2 * n[0], n[2], 4};
+    bool steps_over_entries = now.does == LOAD_TLUT_HARDWARE && now.image_siz != 2;
+    if (!steps_over_entries) return (walk){n[1], 2 * n[0], n[2], 4};
     uint32_t entries_a_step = 16u >> now.image_siz;
     return (walk){(n[0] + entries_a_step - 1) / entries_a_step, 2, 8, 4};
 }

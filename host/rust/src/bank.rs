@@ -95,7 +95,31 @@ impl Bank {
     pub fn reasons(&self) -> &[u8; REASON_BYTES] {
         &self.reasons
     }
+}
 
+/// Declares loads of a bank, each by the call of its name in [`slices`].
+macro_rules! loads {
+    ($($(#[$about:meta])* fn $name:ident($($number:ident),*);)*) => {
+        impl Bank {
+            $(
+                $(#[$about])*
+                #[allow(clippy::too_many_arguments)]
+                pub fn $name(
+                    &mut self,
+                    source: &[u8],
+                    tile: &Tile,
+                    image_siz: u32,
+                    $($number: u32),*
+                ) -> Result<Loaded, Refusal> {
+                    let Self { bytes, written: Written { bytes: written, last }, reasons } = self;
+                    slices::$name(bytes, written, reasons, source, tile, image_siz, $($number,)* last)
+                }
+            )*
+        }
+    };
+}
+
+loads! {
     /// Loads a block of `words` words of eight bytes. Of the tile it takes `fmt`, `siz`, `line` and `tmem_addr`. The source is read
     /// as zero past its end, and the answer says how many of these zeros were stored, and the load's number.
     ///
@@ -113,17 +137,7 @@ impl Bank {
     /// assert_eq!(cut, Loaded { count: 8, made_up: 3, number: 2 });
     /// # Ok::<(), tulonkasa::Refusal>(())
     /// ```
-    pub fn load_block(
-        &mut self,
-        source: &[u8],
-        tile: &Tile,
-        image_siz: u32,
-        dxt: u32,
-        words: u32,
-    ) -> Result<Loaded, Refusal> {
-        let Self { bytes, written: Written { bytes: written, last }, reasons } = self;
-        slices::load_block(bytes, written, reasons, source, tile, image_siz, dxt, words, last)
-    }
+    fn load_block(dxt, words);
 
     /// Loads `rows` rows of `words` words each, `stride` source bytes apart.
     ///
@@ -137,42 +151,45 @@ impl Bank {
     /// assert_eq!(bank.bytes()[8..16], [12, 13, 14, 15, 8, 9, 10, 11]); // odd rows swap their halves
     /// # Ok::<(), tulonkasa::Refusal>(())
     /// ```
-    pub fn load_tile(
-        &mut self,
-        source: &[u8],
-        tile: &Tile,
-        image_siz: u32,
-        rows: u32,
-        words: u32,
-        stride: u32,
-    ) -> Result<Loaded, Refusal> {
-        let Self { bytes, written: Written { bytes: written, last }, reasons } = self;
-        slices::load_tile(bytes, written, reasons, source, tile, image_siz, rows, words, stride, last)
-    }
+    fn load_tile(rows, words, stride);
 
-    /// Loads a palette of `rows` rows of `count` entries, `stride` source bytes apart.
+    /// Loads a palette as the console's own load command does: `count` entries, in one row, of an image of size 1, 2 or 3. Any other
+    /// `rows` and `image_siz` are refused by [`Refusal::Load`]; for those there is [`Bank::load_tlut_rows`]. `stride` has no effect.
     ///
     /// ```
     /// use tulonkasa::{Bank, Tile};
     ///
     /// let mut bank = Bank::new();
     /// let tile = Tile { tmem_addr: 256, ..Tile::default() };
-    /// bank.load_tlut(&[0xab, 0xcd], &tile, 2, 1, 1, 0)?;
+    /// bank.load_tlut_hardware(&[0xab, 0xcd], &tile, 2, 1, 1, 0)?;
     /// assert_eq!(bank.bytes()[2048..2056], [0xab, 0xcd, 0xab, 0xcd, 0xab, 0xcd, 0xab, 0xcd]);
     /// # Ok::<(), tulonkasa::Refusal>(())
     /// ```
-    pub fn load_tlut(
-        &mut self,
-        source: &[u8],
-        tile: &Tile,
-        image_siz: u32,
-        count: u32,
-        rows: u32,
-        stride: u32,
-    ) -> Result<Loaded, Refusal> {
-        let Self { bytes, written: Written { bytes: written, last }, reasons } = self;
-        slices::load_tlut(bytes, written, reasons, source, tile, image_siz, count, rows, stride, last)
-    }
+    fn load_tlut_hardware(count, rows, stride);
+
+    /// Loads a palette of `rows` rows of `count` entries, `stride` source bytes apart: the defined extension, for several rows or an
+    /// image of size 0. A title that needs it does something that the hardware's single load does not do, and so has stitched its
+    /// palette from rows. `image_siz` has no effect.
+    ///
+    /// Which of the two a title used:
+    ///
+    /// ```
+    /// use tulonkasa::{Bank, Refusal, Tile};
+    ///
+    /// let mut bank = Bank::new();
+    /// let tile = Tile { line: 1, tmem_addr: 256, ..Tile::default() };
+    /// let source = [0xf8, 0x01, 0x07, 0xc1]; // red and green
+    ///
+    /// // Two entries in one row: the hardware does it.
+    /// assert_eq!(bank.load_tlut_hardware(&source, &tile, 2, 2, 1, 0)?.count, 16);
+    ///
+    /// // One entry in each of two rows: the hardware does not, and the palette was stitched.
+    /// assert_eq!(bank.load_tlut_hardware(&source, &tile, 2, 1, 2, 2), Err(Refusal::Load));
+    /// assert_eq!(bank.load_tlut_rows(&source, &tile, 2, 1, 2, 2)?.count, 16);
+    /// assert_eq!(bank.bytes()[2080..2082], [0x07, 0xc1]); // rows stand 32 bytes apart for a line of 1
+    /// # Ok::<(), Refusal>(())
+    /// ```
+    fn load_tlut_rows(count, rows, stride);
 
     /// Loads a block as [`Bank::load_block`] does, of a source that the capture rig rejected, and leaves the reason, 1 to
     /// [`REASON_MOST`], at each address where it stores. It stays there until another load stores; [`Bank::rejection`] asks for it. What
@@ -193,51 +210,19 @@ impl Bank {
     /// assert_eq!(bank.reject_block(&[], &tile, 2, 0, 1, 0), Err(Refusal::Reason));
     /// # Ok::<(), Refusal>(())
     /// ```
-    pub fn reject_block(
-        &mut self,
-        source: &[u8],
-        tile: &Tile,
-        image_siz: u32,
-        dxt: u32,
-        words: u32,
-        reason: u32,
-    ) -> Result<Loaded, Refusal> {
-        let Self { bytes, written: Written { bytes: written, last }, reasons } = self;
-        slices::reject_block(bytes, written, reasons, source, tile, image_siz, dxt, words, reason, last)
-    }
+    fn reject_block(dxt, words, reason);
 
     /// Loads rows as [`Bank::load_tile`] does, of a rejected source, and leaves the reason as [`Bank::reject_block`] does.
-    #[allow(clippy::too_many_arguments)]
-    pub fn reject_tile(
-        &mut self,
-        source: &[u8],
-        tile: &Tile,
-        image_siz: u32,
-        rows: u32,
-        words: u32,
-        stride: u32,
-        reason: u32,
-    ) -> Result<Loaded, Refusal> {
-        let Self { bytes, written: Written { bytes: written, last }, reasons } = self;
-        slices::reject_tile(bytes, written, reasons, source, tile, image_siz, rows, words, stride, reason, last)
-    }
+    fn reject_tile(rows, words, stride, reason);
 
-    /// Loads a palette as [`Bank::load_tlut`] does, of a rejected source, and leaves the reason as [`Bank::reject_block`] does.
-    #[allow(clippy::too_many_arguments)]
-    pub fn reject_tlut(
-        &mut self,
-        source: &[u8],
-        tile: &Tile,
-        image_siz: u32,
-        count: u32,
-        rows: u32,
-        stride: u32,
-        reason: u32,
-    ) -> Result<Loaded, Refusal> {
-        let Self { bytes, written: Written { bytes: written, last }, reasons } = self;
-        slices::reject_tlut(bytes, written, reasons, source, tile, image_siz, count, rows, stride, reason, last)
-    }
+    /// Loads a palette as [`Bank::load_tlut_hardware`] does, of a rejected source, and leaves the reason as [`Bank::reject_block`] does.
+    fn reject_tlut_hardware(count, rows, stride, reason);
 
+    /// Loads a palette as [`Bank::load_tlut_rows`] does, of a rejected source, and leaves the reason as [`Bank::reject_block`] does.
+    fn reject_tlut_rows(count, rows, stride, reason);
+}
+
+impl Bank {
     /// The tile's plain picture: `width` by `height` texels of four bytes.
     ///
     /// ```
@@ -380,6 +365,9 @@ impl Bank {
     ///
     /// `end` is the length of the capture's companion file, and `part` the file's bytes from the record's offset on: at least as
     /// many as the record states. A key needs none.
+    ///
+    /// A palette of one row and an image size above 0 is loaded as [`Bank::load_tlut_hardware`] does it, any other as
+    /// [`Bank::load_tlut_rows`] does.
     ///
     /// A record has no reason, so its load is an ordinary one, and takes reasons away where it stores. A load that is to be rejected is
     /// done by [`Bank::reject_block`] and the like, in between.

@@ -110,10 +110,12 @@ macro_rules! loads {
 loads! {
     fn tk_load_block(dxt, words, last);
     fn tk_load_tile(rows, words, stride, last);
-    fn tk_load_tlut(count, rows, stride, last);
+    fn tk_load_tlut_hardware(count, rows, stride, last);
+    fn tk_load_tlut_rows(count, rows, stride, last);
     fn tk_reject_block(dxt, words, reason, last);
     fn tk_reject_tile(rows, words, stride, reason, last);
-    fn tk_reject_tlut(count, rows, stride, reason, last);
+    fn tk_reject_tlut_hardware(count, rows, stride, reason, last);
+    fn tk_reject_tlut_rows(count, rows, stride, reason, last);
 }
 
 extern "C" {

@@ -17,124 +17,63 @@ macro_rules! call {
     };
 }
 
-/// Calls a load of [`ffi`], and takes over the number of the last load.
-macro_rules! load {
-    ($entry:ident($bank:ident, $written:ident, $reasons:ident, $source:ident, $tile:ident $(, $number:ident)*; $last:ident)) => {{
-        // SAFETY: each pointer comes with its slice's length, and Rust's borrows do not overlap.
-        let answer = unsafe {
-            ffi::$entry(
-                $bank.as_mut_ptr(), $bank.len(), $written.as_mut_ptr(), $written.len(), $reasons.as_mut_ptr(), $reasons.len(),
-                $source.as_ptr(), $source.len(), $tile.fmt, $tile.siz, $tile.line, $tile.tmem_addr $(, $number)*, *$last
-            )
-        };
-        *$last = answer.number;
-        let loaded = Loaded { count: answer.count, made_up: answer.made_up, number: answer.number };
-        Refusal::check(answer.refusal, loaded)
-    }};
+/// Declares loads, each by its entry of [`ffi`]. They take the buffers, the tile and the image's size, then numbers of their own, and the
+/// number of the last load, which they set to the one that is answered.
+macro_rules! loads {
+    ($($(#[$about:meta])* fn $name:ident = $entry:ident($($number:ident),*);)*) => {
+        $(
+            $(#[$about])*
+            #[allow(clippy::too_many_arguments)]
+            pub fn $name(
+                bank: &mut [u8],
+                written: &mut [u8],
+                reasons: &mut [u8],
+                source: &[u8],
+                tile: &Tile,
+                image_siz: u32,
+                $($number: u32,)*
+                last: &mut u32,
+            ) -> Result<Loaded, Refusal> {
+                // SAFETY: each pointer comes with its slice's length, and Rust's borrows do not overlap.
+                let answer = unsafe {
+                    ffi::$entry(
+                        bank.as_mut_ptr(), bank.len(), written.as_mut_ptr(), written.len(), reasons.as_mut_ptr(), reasons.len(),
+                        source.as_ptr(), source.len(), tile.fmt, tile.siz, tile.line, tile.tmem_addr, image_siz, $($number,)* *last
+                    )
+                };
+                *last = answer.number;
+                let loaded = Loaded { count: answer.count, made_up: answer.made_up, number: answer.number };
+                Refusal::check(answer.refusal, loaded)
+            }
+        )*
+    };
 }
 
-/// Answers the count of stores, how many of their bytes were made up, and the load's number. `last` is the number of the last load
-/// before and after the call; a refused one leaves it. The reasons are 0 where it stored.
-#[allow(clippy::too_many_arguments)]
-pub fn load_block(
-    bank: &mut [u8],
-    written: &mut [u8],
-    reasons: &mut [u8],
-    source: &[u8],
-    tile: &Tile,
-    image_siz: u32,
-    dxt: u32,
-    words: u32,
-    last: &mut u32,
-) -> Result<Loaded, Refusal> {
-    load!(tk_load_block(bank, written, reasons, source, tile, image_siz, dxt, words; last))
-}
+loads! {
+    /// Answers the count of stores, how many of their bytes were made up, and the load's number. `last` is the number of the last load
+    /// before and after the call; a refused one leaves it. The reasons are 0 where it stored.
+    fn load_block = tk_load_block(dxt, words);
 
-/// Answers as [`load_block`] does.
-#[allow(clippy::too_many_arguments)]
-pub fn load_tile(
-    bank: &mut [u8],
-    written: &mut [u8],
-    reasons: &mut [u8],
-    source: &[u8],
-    tile: &Tile,
-    image_siz: u32,
-    rows: u32,
-    words: u32,
-    stride: u32,
-    last: &mut u32,
-) -> Result<Loaded, Refusal> {
-    load!(tk_load_tile(bank, written, reasons, source, tile, image_siz, rows, words, stride; last))
-}
+    /// Answers as [`load_block`] does.
+    fn load_tile = tk_load_tile(rows, words, stride);
 
-/// Answers as [`load_block`] does.
-#[allow(clippy::too_many_arguments)]
-pub fn load_tlut(
-    bank: &mut [u8],
-    written: &mut [u8],
-    reasons: &mut [u8],
-    source: &[u8],
-    tile: &Tile,
-    image_siz: u32,
-    count: u32,
-    rows: u32,
-    stride: u32,
-    last: &mut u32,
-) -> Result<Loaded, Refusal> {
-    load!(tk_load_tlut(bank, written, reasons, source, tile, image_siz, count, rows, stride; last))
-}
+    /// As the hardware loads a palette: one row, of an image of size 1, 2 or 3. Answers as [`load_block`] does.
+    fn load_tlut_hardware = tk_load_tlut_hardware(count, rows, stride);
 
-/// As [`load_block`], of a source that was rejected: its reason is where it stored.
-#[allow(clippy::too_many_arguments)]
-pub fn reject_block(
-    bank: &mut [u8],
-    written: &mut [u8],
-    reasons: &mut [u8],
-    source: &[u8],
-    tile: &Tile,
-    image_siz: u32,
-    dxt: u32,
-    words: u32,
-    reason: u32,
-    last: &mut u32,
-) -> Result<Loaded, Refusal> {
-    load!(tk_reject_block(bank, written, reasons, source, tile, image_siz, dxt, words, reason; last))
-}
+    /// A palette of any rows, of an image of any size. Answers as [`load_block`] does.
+    fn load_tlut_rows = tk_load_tlut_rows(count, rows, stride);
 
-/// As [`load_tile`], of a source that was rejected: its reason is where it stored.
-#[allow(clippy::too_many_arguments)]
-pub fn reject_tile(
-    bank: &mut [u8],
-    written: &mut [u8],
-    reasons: &mut [u8],
-    source: &[u8],
-    tile: &Tile,
-    image_siz: u32,
-    rows: u32,
-    words: u32,
-    stride: u32,
-    reason: u32,
-    last: &mut u32,
-) -> Result<Loaded, Refusal> {
-    load!(tk_reject_tile(bank, written, reasons, source, tile, image_siz, rows, words, stride, reason; last))
-}
+    /// As [`load_block`], of a source that was rejected: its reason is where it stored.
+    fn reject_block = tk_reject_block(dxt, words, reason);
 
-/// As [`load_tlut`], of a source that was rejected: its reason is where it stored.
-#[allow(clippy::too_many_arguments)]
-pub fn reject_tlut(
-    bank: &mut [u8],
-    written: &mut [u8],
-    reasons: &mut [u8],
-    source: &[u8],
-    tile: &Tile,
-    image_siz: u32,
-    count: u32,
-    rows: u32,
-    stride: u32,
-    reason: u32,
-    last: &mut u32,
-) -> Result<Loaded, Refusal> {
-    load!(tk_reject_tlut(bank, written, reasons, source, tile, image_siz, count, rows, stride, reason; last))
+    /// As [`load_tile`], of a source that was rejected: its reason is where it stored.
+    fn reject_tile = tk_reject_tile(rows, words, stride, reason);
+
+    /// As [`load_tlut_hardware`], of a source that was rejected: its reason is where it stored.
+    fn reject_tlut_hardware = tk_reject_tlut_hardware(count, rows, stride, reason);
+
+    /// As [`load_tlut_rows`], of a source that was rejected: its reason is where it stored.
+    fn reject_tlut_rows = tk_reject_tlut_rows(count, rows, stride, reason);
 }
 
 /// Answers which picture the tile calls for.

@@ -79,13 +79,16 @@ fn a_tile_tells_what_is_made_up() {
 #[test]
 fn a_palette_tells_what_is_made_up() {
     // Each byte is stored four times. A step of the hardware takes two bytes, and goes on by two or by eight.
-    made_up(24, &[24, 20, 16, 12, 8, 4], |bank, source, tile| bank.load_tlut(source, tile, 2, 3, 1, 0));
+    made_up(24, &[24, 20, 16, 12, 8, 4], |bank, source, tile| bank.load_tlut_hardware(source, tile, 2, 3, 1, 0));
     let far = [16, 12, 8, 8, 8, 8, 8, 8, 8, 4];
-    made_up(16, &far, |bank, source, tile| bank.load_tlut(source, tile, 1, 9, 1, 0));
-    made_up(16, &far, |bank, source, tile| bank.load_tlut(source, tile, 3, 3, 1, 0));
-    // Rows of entries: one of three, and two of two, three bytes apart, which share a byte.
-    made_up(24, &[24, 20, 16, 12, 8, 4], |bank, source, tile| bank.load_tlut(source, tile, 0, 3, 1, 0));
-    made_up(32, &[32, 28, 24, 20, 12, 8, 4], |bank, source, tile| bank.load_tlut(source, tile, 2, 2, 2, 3));
+    made_up(16, &far, |bank, source, tile| bank.load_tlut_hardware(source, tile, 1, 9, 1, 0));
+    made_up(16, &far, |bank, source, tile| bank.load_tlut_hardware(source, tile, 3, 3, 1, 0));
+    // Rows of entries, of an image of any size: one of three, and two of two, three bytes apart, which share a byte.
+    for image_siz in 0..4 {
+        made_up(24, &[24, 20, 16, 12, 8, 4], |bank, source, tile| bank.load_tlut_rows(source, tile, image_siz, 3, 1, 0));
+        let shared = [32, 28, 24, 20, 12, 8, 4];
+        made_up(32, &shared, |bank, source, tile| bank.load_tlut_rows(source, tile, image_siz, 2, 2, 3));
+    }
 }
 
 #[test]
@@ -94,7 +97,7 @@ fn the_longest_sources_are_cut_too() {
     let load = |length| Bank::new().load_tile(&vec![1; length], &tile, 2, 2, 1, 65529);
     assert_eq!(load(65535), loaded(16, 2));
     assert_eq!(load(65536), loaded(16, 1));
-    let most = Bank::new().load_tlut(&[], &tile, 0, 1024, 1024, 65535);
+    let most = Bank::new().load_tlut_rows(&[], &tile, 0, 1024, 1024, 65535);
     assert_eq!(most, loaded(8_388_608, 8_388_608));
 }
 
@@ -107,8 +110,8 @@ fn a_refused_load_changes_nothing() {
     assert_eq!(bank.load_block(&[1], &Tile { fmt: 8, ..tile }, 2, 0, 2), Err(Refusal::Tile));
     assert_eq!(bank.load_block(&[1], &tile, 2, 4096, 2), Err(Refusal::Load));
     assert_eq!(bank.load_tile(&[1], &tile, 4, 1, 1, 0), Err(Refusal::Load));
-    assert_eq!(bank.load_tlut(&[1], &tile, 2, 1, 0, 0), Err(Refusal::Load));
-    assert_eq!(bank.load_tlut(&[1; 65537], &tile, 2, 1, 1, 0), Err(Refusal::Load));
+    assert_eq!(bank.load_tlut_rows(&[1], &tile, 2, 1, 0, 0), Err(Refusal::Load));
+    assert_eq!(bank.load_tlut_hardware(&[1; 65537], &tile, 2, 1, 1, 0), Err(Refusal::Load));
     assert_eq!(bank, before);
 }
 
@@ -289,7 +292,6 @@ fn limits() {
     assert_eq!(bank.sample_tile(&Tile { mode: 4, ..tile }, 0), Err(Refusal::ModeOrLane));
     assert_eq!(bank.key(&Tile { fmt: 1, siz: 2, ..tile }, 0), Err(Refusal::Pair));
     assert!(bank.key(&Tile { fmt: 1, siz: 2, mode: 2, ..tile }, 0).is_ok());
-    assert_eq!(Bank::new().load_tlut(&[], &tile, 2, 1, 0, 0), Err(Refusal::Load));
     assert_eq!(Bank::new().load_block(&[0; 65537], &tile, 2, 0, 1), Err(Refusal::Load));
     assert_eq!(Bank::new().load_block(&[0; 65536], &tile, 2, 0, 1), loaded(8, 0));
 }
@@ -371,7 +373,8 @@ fn a_replay_does_each_load_as_its_own_call_does() {
     };
     check(0, &[(20, 1024), (22, 4)], &|bank| bank.load_block(&source, &tile, 2, 1024, 4));
     check(1, &[(22, 2), (24, 3), (28, 9)], &|bank| bank.load_tile(&source, &tile, 2, 3, 2, 9));
-    check(2, &[(24, 2), (26, 5), (28, 12)], &|bank| bank.load_tlut(&source, &tile, 2, 5, 2, 12));
+    check(2, &[(24, 1), (26, 5), (28, 12)], &|bank| bank.load_tlut_hardware(&source, &tile, 2, 5, 1, 12));
+    check(2, &[(24, 2), (26, 5), (28, 12)], &|bank| bank.load_tlut_rows(&source, &tile, 2, 5, 2, 12));
 }
 
 #[test]

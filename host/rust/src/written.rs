@@ -77,7 +77,7 @@ impl Written {
     ///
     /// let mut bank = Bank::new();
     /// let tile = Tile { fmt: 2, siz: 1, mode: 2, line: 1, width: 2, height: 1, ..Tile::default() };
-    /// bank.load_tlut(&[0xf8, 0x01], &Tile { tmem_addr: 256, ..Tile::default() }, 2, 1, 1, 0)?; // entry 0
+    /// bank.load_tlut_hardware(&[0xf8, 0x01], &Tile { tmem_addr: 256, ..Tile::default() }, 2, 1, 1, 0)?; // entry 0
     /// bank.load_tile(&[0, 1], &tile, 1, 1, 1, 0)?; // the indices 0 and 1
     ///
     /// let trail = bank.sample_tile_observed(&tile, 0)?.trail;

@@ -150,7 +150,8 @@ fn the_last_load_counts() {
     assert_eq!(bank.load_tile(&[], &Tile { tmem_addr: 3, ..WORD }, 2, 1, 1, 0).map(|loaded| loaded.number), Ok(2)); // 24 to 31
     assert_eq!(bank.load_block(&[], &WORD, 2, 0, 0).map(|loaded| loaded.number), Ok(3)); // nothing
     assert_eq!(bank.load_block(&[], &WORD, 4, 0, 3), Err(Refusal::Load));
-    assert_eq!(bank.reject_tlut(&[], &Tile { tmem_addr: 4, ..WORD }, 2, 1, 1, 0, 7).map(|loaded| loaded.number), Ok(4)); // 32 to 39
+    let rejected = bank.reject_tlut_hardware(&[], &Tile { tmem_addr: 4, ..WORD }, 2, 1, 1, 0, 7); // 32 to 39
+    assert_eq!(rejected.map(|loaded| loaded.number), Ok(4));
     let written = bank.written();
     assert_eq!([15, 16, 23, 24, 31, 32, 39, 40].map(|address| written.number_at(address)), [0, 1, 1, 2, 2, 4, 4, 0]);
     assert_eq!(written.addresses().collect::<Vec<_>>(), (16..40).collect::<Vec<_>>());

@@ -80,7 +80,7 @@ fn a_load_of_no_stores_leaves_all_reasons() {
     let before = *bank.reasons();
     bank.load_block(&[], &WORD, 2, 0, 0).unwrap();
     bank.reject_tile(&[], &WORD, 2, 0, 1, 0, 8).unwrap();
-    bank.reject_tlut(&[], &WORD, 2, 0, 1, 0, 9).unwrap();
+    bank.reject_tlut_rows(&[], &WORD, 2, 0, 1, 0, 9).unwrap();
     assert_eq!((bank.reasons(), bank.written().last()), (&before, 4));
 }
 
@@ -323,7 +323,7 @@ fn a_bank_keeps_the_reasons() {
     assert_eq!(bank.rejection(&BYTES), Ok(None));
 
     let before = bank.clone();
-    assert_eq!(bank.reject_tlut(&[4; 8], &WORD, 2, 1, 1, 0, 256), Err(Refusal::Reason));
+    assert_eq!(bank.reject_tlut_hardware(&[4; 8], &WORD, 2, 1, 1, 0, 256), Err(Refusal::Reason));
     assert_eq!(bank.load_block(&[4; 8], &WORD, 4, 0, 3), Err(Refusal::Load));
     assert_eq!(bank, before);
 

@@ -4,12 +4,14 @@ use original::TileDescriptor;
 use std::fmt;
 use tulonkasa::Tile;
 
-/// What is compared.
+/// What is compared. `LoadTlut` is the one of the two palette loads that the original picks; `LoadTlutRows` is the one by rows, also where
+/// the original picks the other.
 #[derive(Clone, Copy, Debug, PartialEq, Eq)]
 pub enum Call {
     LoadBlock,
     LoadTile,
     LoadTlut,
+    LoadTlutRows,
     Sampling,
     Picture { which: Picture, observed: bool },
     Reach,
@@ -92,8 +94,19 @@ impl Case {
         match self.call {
             Call::LoadBlock => Load::Block { dxt: self.numbers[0], words: b },
             Call::LoadTlut => Load::Tlut { count: a, rows: b, stride: c },
+            Call::LoadTlutRows => Load::TlutRows { count: a, rows: b, stride: c },
             _ => Load::Tile { rows: a, words: b, stride: c },
         }
+    }
+
+    /// Whether the load is a palette's, which has a row at least.
+    pub fn is_tlut(&self) -> bool {
+        matches!(self.call, Call::LoadTlut | Call::LoadTlutRows)
+    }
+
+    /// Whether the palette load that the original picks is the hardware's. A replay picks likewise.
+    pub fn picks_hardware(&self) -> bool {
+        self.numbers[1] == 1 && self.image_siz > 0
     }
 
     /// How the load goes through its source.
@@ -102,7 +115,7 @@ impl Case {
         let (count, bytes, apart) = match (self.call, self.image_siz) {
             (Call::LoadBlock, _) => (b, 8, 8),
             (Call::LoadTlut, 1 | 3) if b == 1 => (a.div_ceil(16 >> self.image_siz), 2, 8),
-            (Call::LoadTlut, _) => (b, 2 * a, c),
+            (Call::LoadTlut | Call::LoadTlutRows, _) => (b, 2 * a, c),
             _ => (a, 8 * b, c),
         };
         Pieces { count, bytes, apart }

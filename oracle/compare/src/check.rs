@@ -79,7 +79,7 @@ impl Workspace {
         fill(&mut self.bank[..], case.fill, case.seed);
         let bank = self.bank.clone();
         let amount = match case.call {
-            Call::LoadBlock | Call::LoadTile | Call::LoadTlut => self.load(case),
+            Call::LoadBlock | Call::LoadTile | Call::LoadTlut | Call::LoadTlutRows => self.load(case),
             Call::Sampling => sampling(case),
             Call::Picture { which, observed } => self.picture(case, which, observed),
             Call::Reach => self.reach(case),
@@ -212,9 +212,17 @@ pub fn archive_load(buffers: &mut Buffers, source: &[u8], case: &Case, last: &mu
         (Call::LoadBlock, Some(reason)) => {
             slices::reject_block(bank, written, map, source, tile, image_siz, a, b, reason, last)
         }
-        (Call::LoadTlut, None) => slices::load_tlut(bank, written, map, source, tile, image_siz, a, b, c, last),
-        (Call::LoadTlut, Some(reason)) => {
-            slices::reject_tlut(bank, written, map, source, tile, image_siz, a, b, c, reason, last)
+        (Call::LoadTlut, None) if case.picks_hardware() => {
+            slices::load_tlut_hardware(bank, written, map, source, tile, image_siz, a, b, c, last)
+        }
+        (Call::LoadTlut, Some(reason)) if case.picks_hardware() => {
+            slices::reject_tlut_hardware(bank, written, map, source, tile, image_siz, a, b, c, reason, last)
+        }
+        (Call::LoadTlut | Call::LoadTlutRows, None) => {
+            slices::load_tlut_rows(bank, written, map, source, tile, image_siz, a, b, c, last)
+        }
+        (Call::LoadTlut | Call::LoadTlutRows, Some(reason)) => {
+            slices::reject_tlut_rows(bank, written, map, source, tile, image_siz, a, b, c, reason, last)
         }
         (_, None) => slices::load_tile(bank, written, map, source, tile, image_siz, a, b, c, last),
         (_, Some(reason)) => slices::reject_tile(bank, written, map, source, tile, image_siz, a, b, c, reason, last),

@@ -34,13 +34,15 @@ struct Work {
 }
 
 /// The kinds of comparison, as they are printed.
-const KINDS: [&str; 19] = [
+const KINDS: [&str; 21] = [
     "block loads",
     "tile loads",
     "TLUT loads",
+    "row TLUT loads",
     "rejected block loads",
     "rejected tile loads",
     "rejected TLUT loads",
+    "rejected row TLUT loads",
     "flags and extents",
     "pictures",
     "pictures with trail",
@@ -60,21 +62,22 @@ fn kind(input: &Input) -> usize {
     use original::calls::Picture::{Lookup, Plain};
     let case = match input {
         Input::Case(case) => case,
-        Input::Run(run) => return 16 + run.by as usize,
+        Input::Run(run) => return 18 + run.by as usize,
     };
     let rejected = usize::from(case.reason.is_some());
     match case.call {
-        Call::LoadBlock => 3 * rejected,
-        Call::LoadTile => 1 + 3 * rejected,
-        Call::LoadTlut => 2 + 3 * rejected,
-        Call::Sampling => 6,
-        Call::Picture { which: Plain, observed } => 7 + usize::from(observed),
-        Call::Picture { which: Lookup, observed } => 9 + usize::from(observed),
-        Call::Reach => 11,
-        Call::TileHasLoad => 12,
-        Call::Rejection => 13,
-        Call::PaletteNonreplicated => 14,
-        Call::Key => 15,
+        Call::LoadBlock => 4 * rejected,
+        Call::LoadTile => 1 + 4 * rejected,
+        Call::LoadTlut => 2 + 4 * rejected,
+        Call::LoadTlutRows => 3 + 4 * rejected,
+        Call::Sampling => 8,
+        Call::Picture { which: Plain, observed } => 9 + usize::from(observed),
+        Call::Picture { which: Lookup, observed } => 11 + usize::from(observed),
+        Call::Reach => 13,
+        Call::TileHasLoad => 14,
+        Call::Rejection => 15,
+        Call::PaletteNonreplicated => 16,
+        Call::Key => 17,
     }
 }
 
@@ -146,10 +149,10 @@ fn print(works: &[Work], seed: u64, took: Duration) {
     for (kind, name) in KINDS.iter().enumerate() {
         let mut amount = Amount::default();
         works.iter().for_each(|work| amount += work.amounts[kind]);
-        println!("  {name:22} {}", words(&amount));
+        println!("  {name:23} {}", words(&amount));
         total += amount;
     }
-    println!("  {:22} {}", "in all", words(&total));
+    println!("  {:23} {}", "in all", words(&total));
 }
 
 fn words(amount: &Amount) -> String {

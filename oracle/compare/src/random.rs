@@ -95,19 +95,19 @@ impl Random {
             Call::LoadBlock => [self.near(4095), self.near(2048), 0],
             Call::LoadTile if few => [self.near(64), self.near(32), self.near(65535)],
             Call::LoadTile => [self.near(1024), self.near(512), self.near(65535)],
-            Call::LoadTlut if few => [self.near(256), 1 + self.near(7), self.near(65535)],
-            Call::LoadTlut => [self.near(1024), 1 + self.near(1023), self.near(65535)],
+            Call::LoadTlut | Call::LoadTlutRows if few => [self.near(256), 1 + self.near(7), self.near(65535)],
+            Call::LoadTlut | Call::LoadTlutRows => [self.near(1024), 1 + self.near(1023), self.near(65535)],
             Call::TileHasLoad => [self.near(511), self.near(3), self.near(2)],
             Call::Rejection => std::array::from_fn(|_| self.reasoned_address(&case.tile)),
             _ => [0; 3],
         };
-        if call == Call::LoadTlut && self.to(1) == 0 {
+        if case.is_tlut() && self.to(1) == 0 {
             case.numbers[1] = 1;
         }
         if call == Call::Rejection && self.to(7) != 0 {
             case.fill = Fill::Zero;
         }
-        if matches!(call, Call::LoadBlock | Call::LoadTile | Call::LoadTlut) {
+        if matches!(call, Call::LoadBlock | Call::LoadTile) || case.is_tlut() {
             case.reason = self.reason();
         }
         case.last = match call {
@@ -234,10 +234,11 @@ impl Random {
 }
 
 /// The calls, each as often as it is to be tried.
-const CALLS: [Call; 17] = [
+const CALLS: [Call; 18] = [
     Call::LoadBlock,
     Call::LoadTile,
     Call::LoadTlut,
+    Call::LoadTlutRows,
     Call::Sampling,
     Call::Picture { which: Picture::Plain, observed: false },
     Call::Picture { which: Picture::Plain, observed: false },

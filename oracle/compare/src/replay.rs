@@ -191,7 +191,7 @@ fn refusal(record: &Record, end: u64) -> Option<Refusal> {
     let numbers = match load {
         Load::Block { dxt, words } => dxt > 4095 || words > 2048,
         Load::Tile { rows, words, .. } => rows > 1024 || words > 512,
-        Load::Tlut { count, rows, .. } => count > 1024 || !(1..=1024).contains(&rows),
+        Load::Tlut { count, rows, .. } | Load::TlutRows { count, rows, .. } => count > 1024 || !(1..=1024).contains(&rows),
     };
     first(&[
         (load_fields, Refusal::Tile),

@@ -1,6 +1,6 @@
 //! Makes a failing input smaller as long as it fails.
 use crate::capture::{Companion, Record, Run, RECORD_BYTES};
-use crate::case::{Call, Case, Fill};
+use crate::case::{Case, Fill};
 use crate::check::Workspace;
 use crate::input::Input;
 
@@ -39,7 +39,7 @@ fn smaller_cases(case: &Case) -> Vec<Case> {
         for smaller in smaller_numbers((*case.clone().numbers_mut()[i]).into()) {
             let mut case = *case;
             *case.numbers_mut()[i] = smaller as u32;
-            if case.call != Call::LoadTlut || case.numbers[1] > 0 {
+            if !case.is_tlut() || case.numbers[1] > 0 {
                 cases.push(case);
             }
         }

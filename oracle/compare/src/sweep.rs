@@ -1,7 +1,7 @@
 //! Cases by structure: every pair, mode and lane with the limits of the sizes, tiles that repeat, the limits of every load, small loads
 //! from sources of every length, with every kind of last number and of reason, and reasons about what a tile reaches.
-//! Runs of records: the limits of every number, several faults at a time, keys of tiles that repeat, sources at the companion's end, and
-//! loads over each other's bytes until no number is left.
+//! Runs of records: the limits of every number, several faults at a time, palettes about the pick between the two loads, keys of tiles that
+//! repeat, sources at the companion's end, and loads over each other's bytes until no number is left.
 use crate::capture::place::*;
 use crate::capture::{By, Companion, Record, Run, BLOCK, KEY, RECORD_BYTES, TILE, TLUT};
 use crate::case::{Call, Case, Fill};
@@ -57,8 +57,8 @@ const WALLS: [[u32; 5]; 13] = [
 ];
 
 /// Small loads by their own numbers: a block of even and odd rows, and one of no words; tiles whose rows are the same, share bytes,
-/// follow each other and stand apart; palettes of one row, which go step by step or as entries, and of several.
-const SMALL_LOADS: [(Call, [u32; 3]); 10] = [
+/// follow each other and stand apart; palettes of one row, which go step by step or as entries, and of several, by the pick and by rows.
+const SMALL_LOADS: [(Call, [u32; 3]); 12] = [
     (Call::LoadBlock, [2048, 3, 0]),
     (Call::LoadBlock, [2048, 0, 0]),
     (Call::LoadTile, [3, 2, 0]),
@@ -69,7 +69,13 @@ const SMALL_LOADS: [(Call, [u32; 3]); 10] = [
     (Call::LoadTlut, [3, 3, 4]),
     (Call::LoadTlut, [3, 3, 6]),
     (Call::LoadTlut, [3, 3, 9]),
+    (Call::LoadTlutRows, [9, 1, 0]),
+    (Call::LoadTlutRows, [3, 3, 4]),
 ];
+
+/// Palette loads, with their rows.
+const PALETTES: [(Call, u32); 4] =
+    [(Call::LoadTlut, 1), (Call::LoadTlut, 2), (Call::LoadTlutRows, 1), (Call::LoadTlutRows, 2)];
 
 /// Loads that ask for bytes on both sides of the longest source's end.
 const FAR_LOADS: [(Call, [u32; 3]); 2] = [(Call::LoadTile, [2, 2, 65525]), (Call::LoadTlut, [8, 2, 65525])];
@@ -222,12 +228,12 @@ fn loads(cases: &mut Vec<Case>) {
                 push(Call::LoadTile, [3, 2, 17], 51);
                 push(Call::LoadTile, [2, 3, 65535], 65536);
                 push(Call::LoadTile, [33, 9, 72], 0);
-                for rows in [1, 2] {
+                for (call, rows) in PALETTES {
                     for count in [0, 1, 2, 15, 16, 17, 256] {
-                        push(Call::LoadTlut, [count, rows, 2 * count], 2 * count * rows);
+                        push(call, [count, rows, 2 * count], 2 * count * rows);
                     }
-                    push(Call::LoadTlut, [1024, rows, 65535], 65536);
-                    push(Call::LoadTlut, [9, rows, 3], 5);
+                    push(call, [1024, rows, 65535], 65536);
+                    push(call, [9, rows, 3], 5);
                 }
             }
         }
@@ -238,6 +244,7 @@ fn loads(cases: &mut Vec<Case>) {
         cases.push(largest(Call::LoadBlock, [4095, 2048, 0]));
         cases.push(largest(Call::LoadTile, [1024, 512, 64]));
         cases.push(largest(Call::LoadTlut, [1024, 1024, 31]));
+        cases.push(largest(Call::LoadTlutRows, [1024, 1024, 31]));
     }
 }
 
@@ -416,6 +423,7 @@ pub fn runs(by: By) -> Vec<Run> {
         runs.push(run(limits(kind), 1000, 47));
         runs.push(run(faults(kind), 1000, 24));
     }
+    runs.push(run(palettes(), 1000, 0));
     runs.push(run(repeating_keys(), 5000, 0));
     runs.extend(ENDS.map(|end| run(sources(end), end, 0)));
     if by == By::Program {
@@ -478,6 +486,14 @@ fn faults(kind: u32) -> Vec<Record> {
     let choices = 0..1 << FAULTS.len();
     let chosen = |choice: u32| (0..FAULTS.len()).filter(move |i| choice >> i & 1 == 1);
     choices.map(|choice| plain(kind, &chosen(choice).flat_map(|i| FAULTS[i]).copied().collect::<Vec<_>>())).collect()
+}
+
+/// Palettes about the pick between the two loads: of no row, one and several, and of every image size; and a key after each.
+fn palettes() -> Vec<Record> {
+    let pairs = (0..5).flat_map(|image_siz| (0..4).map(move |rows| (image_siz, rows)));
+    let numbers =
+        pairs.flat_map(|(image_siz, rows)| (0..4).map(move |siz| [(IMAGE_SIZ, image_siz), (ROWS, rows), (SIZ, siz)]));
+    numbers.flat_map(|numbers| [plain(TLUT, &numbers), plain(KEY, &[])]).collect()
 }
 
 /// A bank full of bytes, and then keys of tiles that repeat.

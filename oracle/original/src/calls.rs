@@ -13,12 +13,14 @@ pub type Bytes = [u8; 4096];
 /// A bit for each address of a bank.
 pub type Map = [u8; 512];
 
-/// What is loaded, besides the tile and the source.
+/// What is loaded, besides the tile and the source. A `Tlut` goes by the hardware's steps or by rows, as the original picks; `TlutRows`
+/// always goes by rows.
 #[derive(Clone, Copy, Debug)]
 pub enum Load {
     Block { dxt: u32, words: usize },
     Tile { rows: usize, words: usize, stride: usize },
     Tlut { count: usize, rows: usize, stride: usize },
+    TlutRows { count: usize, rows: usize, stride: usize },
 }
 
 /// What a load did.
@@ -111,6 +113,9 @@ impl Tmem {
             Load::Block { dxt, words } => self.write_block_for_tile(source, tile, dxt, words, image_siz),
             Load::Tile { rows, words, stride } => self.write_tile_for_tile(source, tile, rows, words, stride, image_siz),
             Load::Tlut { count, rows, stride } => self.write_tlut_for_tile(source, tile, count, rows, stride, image_siz),
+            Load::TlutRows { count, rows, stride } => {
+                self.write_tlut_rows(source, count, tile.tmem_addr.into(), rows, stride, tile.line.into())
+            }
         }
     }
 }

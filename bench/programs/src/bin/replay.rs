@@ -58,7 +58,7 @@ fn is_inside(load: Load) -> bool {
     match load {
         Load::Block { dxt, words } => dxt <= 4095 && words <= 2048,
         Load::Tile { rows, words, .. } => rows <= 1024 && words <= 512,
-        Load::Tlut { count, rows, .. } => count <= 1024 && (1..=1024).contains(&rows),
+        Load::Tlut { count, rows, .. } | Load::TlutRows { count, rows, .. } => count <= 1024 && (1..=1024).contains(&rows),
     }
 }
 
@@ -68,7 +68,7 @@ fn stores(load: Load, image_siz: u16) -> usize {
         Load::Block { words, .. } => words,
         Load::Tile { rows, words, .. } => rows * words,
         Load::Tlut { count, rows: 1, .. } if image_siz == 1 || image_siz == 3 => count.div_ceil(16 >> image_siz),
-        Load::Tlut { count, rows, .. } => rows * count,
+        Load::Tlut { count, rows, .. } | Load::TlutRows { count, rows, .. } => rows * count,
     }
 }
 

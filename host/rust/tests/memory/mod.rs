@@ -48,23 +48,15 @@ pub const LOADS: [Load; 4] = [
         None => slices::load_tile(bank, written, reasons, source, tile, 2, 1, 1, 0, last),
         Some(reason) => slices::reject_tile(bank, written, reasons, source, tile, 2, 1, 1, 0, reason, last),
     },
-    |memory, source, tile, reason, last| tlut(memory, source, tile, 2, reason, last),
-    |memory, source, tile, reason, last| tlut(memory, source, tile, 0, reason, last),
+    |Memory { bank, written, reasons }, source, tile, reason, last| match reason {
+        None => slices::load_tlut_hardware(bank, written, reasons, source, tile, 2, 1, 1, 0, last),
+        Some(reason) => slices::reject_tlut_hardware(bank, written, reasons, source, tile, 2, 1, 1, 0, reason, last),
+    },
+    |Memory { bank, written, reasons }, source, tile, reason, last| match reason {
+        None => slices::load_tlut_rows(bank, written, reasons, source, tile, 0, 1, 1, 0, last),
+        Some(reason) => slices::reject_tlut_rows(bank, written, reasons, source, tile, 0, 1, 1, 0, reason, last),
+    },
 ];
-
-fn tlut(
-    Memory { bank, written, reasons }: &mut Memory,
-    source: &[u8],
-    tile: &Tile,
-    image_siz: u32,
-    reason: Option<u32>,
-    last: &mut u32,
-) -> Result<Loaded, Refusal> {
-    match reason {
-        None => slices::load_tlut(bank, written, reasons, source, tile, image_siz, 1, 1, 0, last),
-        Some(reason) => slices::reject_tlut(bank, written, reasons, source, tile, image_siz, 1, 1, 0, reason, last),
-    }
-}
 
 /// A record that loads so many words to a word address; a kind of 3 asks for a key of one texel instead.
 pub fn record(kind: u8, words: u8, tmem_addr: u8) -> [u8; 48] {

@@ -52,15 +52,23 @@ two-at-requires-5 c κs = search needs
 cast-count : tie.Need-cast-count
 cast-count c = search needs
 
+image-in-requires : tie.Need-image-in-requires
+image-in-requires c κs = search needs
+
+tlut-requires : tie.Need-tlut-requires
+tlut-requires c κs = search needs
+
 returns-3 : tie.Need-returns-3
 returns-3 c =
-    let d = c .before in
+    let m = c .before in
+    let n = m .before in
+    let d = n .before in
     let s = d .before in
     let r = s .before in
     let e = r .before in
     let k = e .before .before .kind-in .ensures in
     let tlut = says-tlut _ _ _ (λ z. e .if1 .left (k ∙ z)) (r .two-at3 .ensures) (s .two-at4 .ensures) in
-    tlut _ (λ z. d .if2 .left (k ∙ z)) (c .two-at5 .ensures)
+    rw (c .tlut .ensures) (tlut _ _ (λ z. d .if2 .left (k ∙ z)) (m .image-in .ensures) (n .two-at5 .ensures))
 
 pub asked-in-spec : {M : Type 1} → statement M
 asked-in-spec =
@@ -79,4 +87,6 @@ asked-in-spec =
     returns-2
     two-at-requires-5
     cast-count
+    image-in-requires
+    tlut-requires
     returns-3)

@@ -1,5 +1,5 @@
 -- `replaying::refusals::load_refusal` tests what a load takes, and next after that the companion file's end. Assumes nothing.
-use mathlib.Core.Path.{_≡_, _∙_}
+use mathlib.Core.Path.{_≡_, ap, _∙_}
 use mathlib.Core.List.{[]}
 use Prim.Native.Nat.{_+_, _<_, _≤_}
 use native.Mathlib.Omega.{arith}
@@ -7,6 +7,7 @@ use Rattle.rules.specs.Refusal.{first}
 use Rattle.rules.specs.Calls.{numberTests}
 use Rattle.rules.specs.Replay.{tileIn, imageIn, offsetIn, sizeIn, outsideIn}
 use Rattle.replaying.proofs.ByTests.{by-numbers, by-end, by-none}
+use Rattle.tmem.specs.Asked.{askedOutside}
 use borrow.Author.Needs.{needs}
 use Rattle.replaying.proofs.refusals.load_refusal.Statement.{statement}
 use Rattle.replaying.proofs.refusals.load_refusal.Tie as tie
@@ -19,8 +20,11 @@ numbers c =
     let m = a .before in
     let t = m .before in
     let s = t .before in
+    let b = s .before .before .args .bytes .now in
     c .number-refusal .ensures
-    ∙ (λ i. first (numberTests (s .size-in .ensures .0 i) (t .tile-in .ensures i) (m .image-in .ensures i) (a .asked-in .ensures .0 i) []))
+    ∙ (λ i. first (numberTests (s .size-in .ensures .0 i) (t .tile-in .ensures i) (m .image-in .ensures i)
+    (askedOutside (m .image-in .ensures i) (a .asked-in .result)) []))
+    ∙ ap (λ o. first (numberTests (sizeIn b) (tileIn b) (imageIn b) o [])) (a .asked-in .ensures .0)
 
 size-in-requires : tie.Need-size-in-requires
 size-in-requires c κs = search needs
