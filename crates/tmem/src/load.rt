@@ -33,11 +33,8 @@ pub fn number_refusal(size: usize, tile: TileDescriptor, image_siz: u32, asked: 
     if (SOURCE_LIMIT < size) | (3 < image_siz) {
         return refusal::LOAD;
     }
-    if asked.outside(image_siz) {
-        refusal::LOAD
-    } else {
-        0
-    }
+    let outside = asked.outside(image_siz);
+    if outside { refusal::LOAD } else { 0 }
 }
 
 // No number is left after the last one given.
