@@ -12,7 +12,7 @@
  *   no state of its own, so calls on different buffers may run at the same time.
  * - Buffers of one call must not overlap. A buffer of length 0 may have a null pointer.
  * - Every number is taken. One that is out of range, or a buffer of a wrong length, is refused with a number (TK_REFUSED_..
- *   below). Each call tests only what it has a use for, in this order: 1, 8, 10, 2, 3, 4, 11, 5, 12, 6, 7, 9, 19, 18. Two
+ *   below). Each call tests only what it has a use for, in this order: 1, 8, 10, 2, 3, 4, 11, 5, 12, 6, 7, 19, 18. Two
  *   calls have an order of their own: tk_read_pam 13, 14, 2, 15, 6; tk_split 16, 17.
  * - A refused call changes no buffer. Its other answers are 0, but the number of a load or of a replayed record, which is then
  *   the one that was passed.
@@ -56,6 +56,7 @@ extern "C" {
 
 /* ---- Refusals ------------------------------------------------------------------------------------------------------- */
 
+/* 9 was the number of a test that no input could fail, and is not given out again. */
 enum {
     TK_DONE = 0,                 /* not refused */
     TK_REFUSED_LENGTH = 1,       /* a bank, key, written record, reach map, lane map or the reasons have not their length */
@@ -66,7 +67,6 @@ enum {
     TK_REFUSED_PICTURE = 6,      /* the picture's buffer is shorter than 4 bytes a texel, or the file's than the file */
     TK_REFUSED_TRAIL = 7,        /* the trail's buffer is shorter than 2 bytes a read */
     TK_REFUSED_TORN = 8,         /* a capture's record has fewer than 48 bytes, or a program's input ends inside a record */
-    TK_REFUSED_UNKNOWN = 9,      /* the texel step does not know the pair */
     TK_REFUSED_KIND = 10,        /* the kind of a capture's record is above 3 */
     TK_REFUSED_BEYOND = 11,      /* the source of a capture's record goes beyond the companion file */
     TK_REFUSED_ZERO_SIDE = 12,   /* a picture to be written has a zero side */
@@ -268,7 +268,7 @@ tk_sampling_answer tk_sampling(TK_TILE_PARAMETERS);
 
 /* A picture is four bytes a texel: red, green, blue, alpha, row by row. lane, 0..3, is the lane of each palette slot that is
  * read in modes 2 and 3. A buffer longer than needed keeps its further bytes.
- * Refuses 1 (bank), 2, 3, 5, 6, 7 (with a trail), 9. Answers the count of reads: 3 a texel in modes 2 and 3, else 1, 2 or 4.
+ * Refuses 1 (bank), 2, 3, 5, 6, 7 (with a trail). Answers the count of reads: 3 a texel in modes 2 and 3, else 1, 2 or 4.
  *
  * The calls named .._observed also write the trail: each address that was read, in order, as two bytes, high byte first. An
  * odd last byte of its buffer is left unused. */
@@ -358,7 +358,7 @@ uint32_t tk_palette_nonreplicated(const uint8_t *bank, size_t bank_length, uint8
  * bank holds behind the sixteenth column. For the same tile, mode and lane a key gives the same visible picture as its bank.
  * The whole picture, as tk_sample_tile makes it, may have other texels outside the visible columns and rows.
  *
- * Refuses 1 (bank, key), 2, 3, 5, 9. Answers the count of kept bytes. */
+ * Refuses 1 (bank, key), 2, 3, 5. Answers the count of kept bytes. */
 tk_answer tk_key(const uint8_t *bank, size_t bank_length, TK_TILE_PARAMETERS, uint32_t lane, uint8_t *key,
                  size_t key_length);
 
@@ -390,7 +390,7 @@ tk_answer tk_key(const uint8_t *bank, size_t bank_length, TK_TILE_PARAMETERS, ui
  * load that is to be rejected is done by its own call, in between. A key changes nothing, and answers the count of bytes that
  * tk_key would keep of the bank as it stands; it takes no number, and answers the one passed.
  * Refuses 1 (bank, written, reasons), 8, 10; then a load 2, 4 (length above 65,536 too), 11 (offset + length above end, or a
- * part shorter than length), 18 (last); and a key 2, 3, 5, 9.
+ * part shorter than length), 18 (last); and a key 2, 3, 5.
  *
  * A capture is replayed by a call for each record in turn, beginning with a bank, a written record and reasons of zeros and a
  * `last` of 0; each call then gets the number that the one before it answered. A refusal does not stop a replay: that record

@@ -6,8 +6,8 @@
  * Each buffer lies against a page that cannot be touched, at its end or at its start, so that the archive cannot reach
  * outside it unseen. After each call its refusal, its counts and a load's number are held against what documents 01 and 02 say,
  * worked out here on their own, its other answers against 0 where it refused, and every byte that must not have changed against a
- * copy. Of a file with changed bytes only the numbers that reading can refuse are known. In the end it fails if a refusal never
- * came up, but for 9, which no input gives. */
+ * copy. Of a file with changed bytes only the numbers that reading can refuse are known. 9 is given by no call; in the end it fails if
+ * another refusal never came up. */
 
 #include <stdbool.h>
 #include <stdio.h>
@@ -946,7 +946,11 @@ static uint32_t expected_of_change(void) {
     return 0;
 }
 
+/* The number that is not given out again. */
+enum { NOT_GIVEN = 9 };
+
 static void check_call(bool whole) {
+    if (answer.refusal == NOT_GIVEN) fail("a refusal that no call gives");
     bool changed = now.entry == READ_PAM && now.header.is_changed;
     uint32_t refusal = changed ? expected_of_change() : expected_refusal();
     if (answer.refusal != refusal) {
@@ -962,7 +966,7 @@ static void check_call(bool whole) {
     }
 }
 
-/* How often each number was answered, by entry. In so many calls each must come up. */
+/* How often each number was answered, by entry. In so many calls each that is given must come up. */
 enum { NUMBERS = 20, MANY_CALLS = 20000 };
 static uint64_t answered[ENTRIES][NUMBERS];
 
@@ -975,7 +979,7 @@ static uint64_t times_answered(int number, int from, int to) {
 /* Prints that for the entries from one up to another, added up. */
 static void print_answered(int from, int to) {
     for (int number = 0; number < NUMBERS; number++) {
-        printf(" %d: %llu", number, (unsigned long long)times_answered(number, from, to));
+        if (number != NOT_GIVEN) printf(" %d: %llu", number, (unsigned long long)times_answered(number, from, to));
     }
     printf("\n");
 }
@@ -1002,7 +1006,7 @@ int main(int argc, char **argv) {
         choose_call();
         make_call();
         check_call(done % 65536 == 0);
-        answered[now.entry][answer.refusal % NUMBERS]++;
+        answered[now.entry][answer.refusal]++;
         done++;
     }
     printf("rough handling: %llu calls, seed %s, refused by number:", (unsigned long long)done, argv[2]);
@@ -1012,7 +1016,7 @@ int main(int argc, char **argv) {
         print_answered(entry, entry + 1);
     }
     for (int number = 0; done >= MANY_CALLS && number < NUMBERS; number++) {
-        if (number == TK_REFUSED_UNKNOWN || times_answered(number, 0, ENTRIES) > 0) continue;
+        if (number == NOT_GIVEN || times_answered(number, 0, ENTRIES) > 0) continue;
         fprintf(stderr, "rough: %d never came up\n", number);
         return 1;
     }

@@ -22,8 +22,6 @@ pub enum Refusal {
     Trail,
     /// 8: a capture's record has fewer than 48 bytes.
     Torn,
-    /// 9: the texel step does not know the pair.
-    Unknown,
     /// 10: the kind of a capture's record is above 3.
     Kind,
     /// 11: the source of a capture's record goes beyond the companion file, or beyond the part of it that was lent.
@@ -62,7 +60,6 @@ impl Refusal {
             6 => Self::Picture,
             7 => Self::Trail,
             8 => Self::Torn,
-            9 => Self::Unknown,
             10 => Self::Kind,
             11 => Self::Beyond,
             12 => Self::ZeroSide,
@@ -88,7 +85,6 @@ impl Refusal {
             Self::Picture => 6,
             Self::Trail => 7,
             Self::Torn => 8,
-            Self::Unknown => 9,
             Self::Kind => 10,
             Self::Beyond => 11,
             Self::ZeroSide => 12,
@@ -123,7 +119,6 @@ impl fmt::Display for Refusal {
             Self::Picture => "the buffer of the picture or of its file is too short",
             Self::Trail => "the trail's buffer is too short",
             Self::Torn => "a record has fewer than 48 bytes",
-            Self::Unknown => "the texel step does not know this pair of format and size",
             Self::Kind => "the kind of the record is above 3",
             Self::Beyond => "the record's source goes beyond the companion file",
             Self::ZeroSide => "the picture has a zero side, which a file can't have",

@@ -433,8 +433,15 @@ fn the_source_of_a_record_ends_in_the_companion() {
 
 #[test]
 fn refusals_have_their_numbers() {
-    for number in 1..=20 {
-        assert_eq!(Refusal::from_number(number).unwrap().number(), number);
+    for number in (1..=8).chain(10..=19) {
+        let refusal = Refusal::from_number(number).unwrap();
+        assert_eq!(refusal.number(), number);
+        assert_ne!(refusal, Refusal::Other(number));
+    }
+    // 9 is given by no call, and is an unknown number like those past the last.
+    for number in [9, 20, u32::MAX] {
+        assert_eq!(Refusal::from_number(number), Some(Refusal::Other(number)));
+        assert_eq!(Refusal::Other(number).to_string(), format!("refusal {number}: a refusal without a name"));
     }
     assert_eq!(Refusal::from_number(0), None);
     assert_eq!(Refusal::Number.number(), 18);
