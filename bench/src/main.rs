@@ -356,7 +356,7 @@ impl Bench {
     }
 
     /// Maps in which all is asked: without reasons; with one at the last address that is asked; and with reasons where the tile does not
-    /// reach, in words of which it reaches other bytes.
+    /// reach, in words of which it reaches other bytes. Then what is dearest beside the original: narrow rows, and a reason found at once.
     fn rejections(&mut self) {
         let whole =
             [("16-bit tile of 64 by 64", square(0, 2, 0), 4091), ("palette tile of 64 by 64", square(2, 1, 2), 4095)];
@@ -373,6 +373,11 @@ impl Bench {
         }
         let between = |address| address < 2048 && address % 2 == 1;
         self.rejection("reasons between the indices, 16-bit palette tile of 64 by 64", &square(2, 2, 2), between);
+        for width in [5, 1] {
+            let tile = Tile { line: 1, width, height: 256, ..square(4, 1, 0) };
+            self.rejection(&format!("no reasons, 8-bit tile of {width} by 256"), &tile, |_| false);
+        }
+        self.rejection("a reason at the first address, 16-bit tile of 64 by 64", &square(0, 2, 0), |address| address == 0);
     }
 
     /// With a reason at each address that is chosen.
