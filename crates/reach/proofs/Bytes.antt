@@ -139,7 +139,7 @@ or-zero x y e =
     (omega arith, omega arith)
 
 -- where v has nothing in common with some numbers in one, it has nothing in common with each
-apart-each : (v n : ℕ) (f : ℕ → ℕ) → bitAnd v (ors n f) ≡ 0 → (k : ℕ) → k < n → bitAnd v (f k) ≡ 0
+pub apart-each : (v n : ℕ) (f : ℕ → ℕ) → bitAnd v (ors n f) ≡ 0 → (k : ℕ) → k < n → bitAnd v (f k) ≡ 0
 unfolding ors
 apart-each v zero f e k h = absurd (omega arith)
 apart-each v (suc n) f e k h = go (ℕ-discrete k n) (λ z l. apart-each v n f z k l)
