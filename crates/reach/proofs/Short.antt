@@ -1,72 +1,62 @@
--- Laws of rows of one word at most: every second row reaches the same bytes of its word, so eight rows are clear where two numbers are.
+-- Laws of rows of one word at most: all even rows reach the same bytes of their words, and all odd ones.
 use mathlib.Core.Path.{_≡_, ap, sym, _∙_}
 use mathlib.Core.Bool.{Bool, true, false}
 use mathlib.Core.List.{List}
-use Prim.Native.Nat.{ℕ, _+_, _*_, _/_, _%_, _<_, _≤_}
+use Prim.Native.Nat.{ℕ, _+_, _*_, _%_, _<_, _≤_}
 use native.Mathlib.Omega.{arith}
 use native.Mathlib.Decide.{ℕ-discrete}
-use native.Mathlib.Nat.{mul-assoc, mul-comm, add-mul}
 use lib.Bits.{bitAnd}
-use lib.Dec.{eqb}
 use lib.ListN.{getD}
+use borrow.Author.Tests.{eq-eqb, ne-eqb}
 use Rattle.rules.specs.Tile.{Tile, bankWords}
 use Rattle.rules.specs.Reach.{rowBytes, reachRow, firstReason}
 use Rattle.reach.specs.Words.{ors}
 use Rattle.reach.specs.declared.span.Span.{Span}
-use Rattle.reach.specs.Span.{wordsOf, wordCount, wordIn, lanesIn, eightIn, wordReached, rowSpan}
+use Rattle.reach.specs.Span.{wordsOf, wordCount, wordIn, lanesIn, eightIn, wordReached, rowSpan, rowLanes}
 use Rattle.reach.proofs.Joined.{none-all, reason-search}
-use Rattle.reach.proofs.Bytes.{apart-each}
+use Rattle.reach.proofs.Bytes.{ors-zero}
 use Rattle.reach.proofs.Spans.{reached-words, row-reached}
 use Rattle.reach.proofs.Asked.{clear-word}
 
--- the word of a row 2 k rows on, from the row's
-stepped : (low : Bool) (a p q : ℕ) → ((a + (p + q)) % bankWords + 0) % wordsOf low ≡ ((a + p) % bankWords + q) % wordsOf low
-stepped true a p q = omega arith
-stepped false a p q = omega arith
+-- the first word of a row, from that of row 0
+stepped : (low : Bool) (a p : ℕ) → ((a + p) % bankWords + 0) % wordsOf low ≡ ((a + 0) % bankWords + p) % wordsOf low
+stepped true a p = omega arith
+stepped false a p = omega arith
 
 module _ (m : List ℕ) (t : Tile) (mode : ℕ) where
   abbrev row : ℕ → Span
   row = rowSpan t mode
 
-  abbrev step : ℕ
-  step = 2 * t .line
+  row-word : (y : ℕ) → wordIn (row y) 0 ≡ wordIn (row 0) (y * t .line)
+  row-word y =
+      let none : 0 * t .line ≡ 0 = omega arith in
+      rw none (stepped (row y .low) (t .tmem-addr) (y * t .line))
 
-  row-word : (y k : ℕ) → wordIn (row (y + 2 * k)) 0 ≡ wordIn (row y) (k * step)
-  row-word y k =
-      let e : (y + 2 * k) * t .line ≡ y * t .line + k * step =
-      add-mul y (2 * k) (t .line) ∙ ap (λ n. y * t .line + n) (ap (λ n. n * t .line) (mul-comm 2 k) ∙ mul-assoc k 2 (t .line)) in
-      rw e (stepped (row y .low) (t .tmem-addr) (y * t .line) (k * step))
-
-  row-lanes : (y k : ℕ) → lanesIn (row (y + 2 * k)) 0 ≡ lanesIn (row y) 0
-  unfolding lanesIn
-  row-lanes y k = let e : (y + 2 * k) % 2 ≡ y % 2 = omega arith in rw e
-
-  row-eight : (y k : ℕ) → eightIn m (row (y + 2 * k)) 0 ≡ eightIn m (row y) (k * step)
+  row-eight : (y : ℕ) → eightIn m (row y) 0 ≡ eightIn m (row 0) (y * t .line)
   unfolding eightIn
-  row-eight y k = rw (row-word y k)
+  row-eight y = rw (row-word y)
+
+  row-lanes : (y z : ℕ) → y % 2 ≡ z % 2 → lanesIn (row y) 0 ≡ lanesIn (row z) 0
+  unfolding lanesIn
+  row-lanes y z e = rw e
 
   module _ (short : rowBytes t ≤ 8) (small : (i : ℕ) → getD m i 0 < 256) where
-    row-clear : (y k : ℕ) → bitAnd (lanesIn (row y) 0) (eightIn m (row y) (k * step)) ≡ 0 → firstReason m (reachRow t mode (y + 2 * k)) ≡ 0
-    row-clear y k e =
-        let s = row (y + 2 * k) in
-        ap (firstReason m) (sym (row-reached t mode (y + 2 * k)) ∙ reached-words s)
-        ∙ none-all (reason-search m) (wordReached s) (wordCount s) only
+    row-clear : (y : ℕ) → bitAnd (lanesIn (row y) 0) (eightIn m (row 0) (y * t .line)) ≡ 0 → firstReason m (reachRow t mode y) ≡ 0
+    row-clear y e =
+        ap (firstReason m) (sym (row-reached t mode y) ∙ reached-words (row y))
+        ∙ none-all (reason-search m) (wordReached (row y)) (wordCount (row y)) only
       where
-        only : (w : ℕ) → w < wordCount (row (y + 2 * k)) → firstReason m (wordReached (row (y + 2 * k)) w) ≡ 0
+        only : (w : ℕ) → w < wordCount (row y) → firstReason m (wordReached (row y) w) ≡ 0
         only w h =
             let z : w ≡ 0 = omega arith in
-            rw z (clear-word m (row (y + 2 * k)) 0 small (rw (row-lanes y k, row-eight y k) e))
+            rw z (clear-word m (row y) 0 small (rw (row-eight y) e))
 
-    -- the numbers of every second row in one have nothing in the bytes that they reach
-    abbrev Apart : ℕ → Type 0
-    Apart y = bitAnd (lanesIn (row y) 0) (ors 4 (λ k. eightIn m (row y) (k * step))) ≡ 0
-
-    pub eight-clear : (y : ℕ) → Apart y → Apart (y + 1) → (k : ℕ) → k < 8 → firstReason m (reachRow t mode (y + k)) ≡ 0
-    eight-clear y e o k h = go (ℕ-discrete (k % 2) 0)
+    -- four rows are clear where one number is zero
+    pub four-clear : (y : ℕ) → y % 2 ≡ 0 → ors 4 (rowLanes m (row 0) (row 1) (t .line) y) ≡ 0 → (k : ℕ) → k < 4
+        → firstReason m (reachRow t mode (y + k)) ≡ 0
+    four-clear y even e k h = row-clear (y + k) (go (ℕ-discrete (k % 2) 1) (ors-zero 4 (rowLanes m (row 0) (row 1) (t .line) y) e k h))
       where
-        each : (y : ℕ) → Apart y → (k : ℕ) → k < 4 → firstReason m (reachRow t mode (y + 2 * k)) ≡ 0
-        each y e k h = row-clear y k (apart-each (lanesIn (row y) 0) 4 (λ k. eightIn m (row y) (k * step)) e k h)
-
-        go : Dec (k % 2 ≡ 0) → firstReason m (reachRow t mode (y + k)) ≡ 0
-        go (yes z) = let at : y + k ≡ y + 2 * (k / 2) = omega arith in rw at (each y e (k / 2) (omega arith))
-        go (no z) = let at : y + k ≡ y + 1 + 2 * (k / 2) = omega (arith, z) in rw at (each (y + 1) o (k / 2) (omega arith))
+        go : Dec (k % 2 ≡ 1) → rowLanes m (row 0) (row 1) (t .line) y k ≡ 0
+            → bitAnd (lanesIn (row (y + k)) 0) (eightIn m (row 0) ((y + k) * t .line)) ≡ 0
+        go (yes o) z = rw (row-lanes (y + k) 1 (omega arith)) (rw (eq-eqb (k % 2) 1 o) at z)
+        go (no o) z = rw (row-lanes (y + k) 0 (omega (arith, o))) (rw (ne-eqb (k % 2) 1 o) at z)

@@ -3,7 +3,7 @@ use mathlib.Core.Path.{_≡_}
 use mathlib.Core.Bool.{Bool, true, cond, _&&_, _||_}
 use mathlib.Core.List.{List}
 use Prim.Native.Nat.{ℕ, _+_, _*_, _-_, _/_, _%_, _^_, _≤_, min}
-use lib.Bits.{bitOr}
+use lib.Bits.{bitAnd, bitOr}
 use lib.Dec.{ltb, leb}
 use Rattle.rules.specs.Base.{odd, tab, concat}
 use Rattle.rules.specs.Tile.{Tile, bankSize, paletteBase, bankWords}
@@ -96,3 +96,7 @@ rowSpan t mode y =
       low = lowHalf t mode;
       twice = bothHalves t mode;
     }
+
+-- what the word of row y + k has in the bytes that the row reaches, from rows 0 and 1, where y is even
+abbrev pub rowLanes : List ℕ → Span → Span → ℕ → ℕ → ℕ → ℕ
+rowLanes m one other line y k = bitAnd (cond (odd k) (lanesIn other 0) (lanesIn one 0)) (eightIn m one ((y + k) * line))

@@ -1,10 +1,10 @@
 // The first reason of one word of a span.
 ghost use mathlib.Core.Bool.{true};
 ghost use mathlib.Core.Path.{_≡_};
-ghost use Prim.Native.Nat.{_*_, _<_};
+ghost use Prim.Native.Nat.{_*_, _<_, _≤_};
 ghost use lib.ListN.{length};
 ghost use Rattle.rules.specs.Reach.{orElse, firstReason};
-ghost use Rattle.rules.specs.Tile.{bankSize, reasonsSize};
+ghost use Rattle.rules.specs.Tile.{bankSize, bankWords, reasonsSize};
 ghost use Rattle.reach.specs.Span.{Bounds, placesOf, placeReached, wordReached, eightIn};
 use crate::span::Span;
 use crate::word;
@@ -13,7 +13,7 @@ use tmem::bank::Bank;
 // The eight bytes of the bank's word that is w words on, as one number, with those of the word that it stands for.
 pub(crate) fn eight_of(reasons: &[u8], span: Span, w: usize) -> u64
     requires { ⌜ length (now reasons) ≡ reasonsSize ⌝ }
-    requires { ⌜ Bounds span × (w < bankSize) ⌝ }
+    requires { ⌜ Bounds span × (w ≤ bankSize * bankWords) ⌝ }
     ensures { λ r. ⌜ r ≡ eightIn (now (reasons .entry)) span w ⌝ }
 {
     let from = 8 * span.word(w);

@@ -1,14 +1,14 @@
-// The first reason of a span, and of the rows of a tile. Rows of one word at most are asked eight at a time.
-ghost use mathlib.Core.Bool.{true};
+// The first reason of a span, and of the rows of a tile. Rows of one word at most are asked four at a time.
+ghost use mathlib.Core.Bool.{cond};
 ghost use mathlib.Core.Path.{_≡_};
-ghost use Prim.Native.Nat.{ℕ, _+_, _*_, _-_, _<_, _≤_, min};
+ghost use Prim.Native.Nat.{_+_, _-_, _%_, _<_, _≤_};
 ghost use lib.ListN.{length};
 ghost use Rattle.rules.specs.Base.{tab, concat};
-ghost use Rattle.rules.specs.Reach.{rowBytes, reachRow, reachRows, reachPlain, firstReason};
+ghost use Rattle.rules.specs.Reach.{rowBytes, reachRow, reachPlain, firstReason};
 ghost use Rattle.rdp.specs.View.{tileOf};
 ghost use Rattle.rules.specs.Tile.{bankSize, bankWords, reasonsSize, InRange};
 ghost use Rattle.reach.specs.Words.{ors};
-ghost use Rattle.reach.specs.Span.{Bounds, reached, eightIn};
+ghost use Rattle.reach.specs.Span.{Bounds, reached, rowLanes};
 use crate::extent;
 use crate::reason;
 use crate::span::Span;
@@ -52,35 +52,32 @@ fn some_rows(
     0
 }
 
-// The numbers of four words in one: the span's first, and those that are one, two and three steps on.
-fn four_words(reasons: &[u8], span: Span, step: usize) -> u64
-    requires { ⌜ length (now reasons) ≡ reasonsSize ⌝ }
-    requires { ⌜ Bounds span × (step < 2 * bankWords) ⌝ }
-    ensures { λ r. ⌜ r ≡ ors 4 (λ k. eightIn (now (reasons .entry)) span (k * step)) ⌝ }
+// The number of odd rows, or of even ones.
+fn of_rows(odd: bool, uneven: u64, even: u64) -> u64
+    ensures { λ r. ⌜ r ≡ cond odd uneven even ⌝ }
 {
+    if odd { uneven } else { even }
+}
+
+// What the words of four rows from row y on have in the bytes that their rows reach, in one number. `one` and `other` are rows 0 and
+// 1: all even rows reach the same bytes of their words, and all odd ones.
+fn four_words(reasons: &[u8], one: Span, other: Span, line: usize, y: usize) -> u64
+    requires { ⌜ length (now reasons) ≡ reasonsSize ⌝ }
+    requires { ⌜ Bounds one × (0 < one .bytes) × (0 < other .bytes) × (line < bankWords) × (y + 4 ≤ bankSize) ⌝ }
+    ensures { λ r. ⌜ r ≡ ors 4 (λ k. rowLanes (now (reasons .entry)) one other line y k) ⌝ }
+{
+    let even = one.lanes(0);
+    let uneven = other.lanes(0);
     let mut all = 0u64;
     for k in 0..4 {
-        all = all | reason::eight_of(reasons, span, k * step);
+        all = all
+            | of_rows(k % 2 == 1, uneven, even) & reason::eight_of(reasons, one, (y + k) * line);
     }
     all
 }
 
-// None of eight rows has one, from row y on: rows of one word each, of which every second reaches the same bytes.
-fn eight_clear(reasons: &[u8], tile: TileDescriptor, tlut: u32, bytes: usize, y: usize) -> bool
-    requires { ⌜ length (now reasons) ≡ reasonsSize ⌝ }
-    requires { ⌜ InRange (tileOf tile) ⌝ }
-    requires { ⌜ (bytes ≡ rowBytes (tileOf tile)) × (bytes ≤ 8) × (y + 1 < bankSize) ⌝ }
-    ensures { λ r. ⌜ (r ≡ true → (k : ℕ) → k < 8 → firstReason (now (reasons .entry)) (reachRow (tileOf tile) tlut (y + k)) ≡ 0) ⌝ }
-{
-    let step = 2 * tile.line.0 as usize;
-    let one = Span::of_row(tile, tlut, y, bytes);
-    let other = Span::of_row(tile, tlut, y + 1, bytes);
-    one.is_zero(0, four_words(reasons, one, step))
-        & other.is_zero(0, four_words(reasons, other, step))
-}
-
-// That of eight rows from row y on, or of those up to the last one. Rows after that are asked with them: none is clear alone.
-fn eight_rows(
+// That of four rows of one word each, from row y on, or of those before row `to`: most have none, which is asked of all four at once.
+fn four_rows(
     reasons: &[u8],
     tile: TileDescriptor,
     tlut: u32,
@@ -90,10 +87,13 @@ fn eight_rows(
 ) -> u8
     requires { ⌜ length (now reasons) ≡ reasonsSize ⌝ }
     requires { ⌜ InRange (tileOf tile) ⌝ }
-    requires { ⌜ (bytes ≡ rowBytes (tileOf tile)) × (bytes ≤ 8) × (y ≤ to) × (to ≤ y + 8) × (to ≤ bankSize) × (y + 1 < bankSize) ⌝ }
+    requires { ⌜ (bytes ≡ rowBytes (tileOf tile)) × (bytes ≤ 8) ⌝ }
+    requires { ⌜ (y % 2 ≡ 0) × (y + 4 ≤ bankSize) × (y ≤ to) × (to ≤ y + 4) ⌝ }
     ensures { λ r. ⌜ r ≡ firstReason (now (reasons .entry)) (concat (tab (to - y) (λ k. reachRow (tileOf tile) tlut (y + k)))) ⌝ }
 {
-    if eight_clear(reasons, tile, tlut, bytes, y) {
+    let one = Span::of_row(tile, tlut, 0, bytes);
+    let other = Span::of_row(tile, tlut, 1, bytes);
+    if four_words(reasons, one, other, tile.line.0 as usize, y) == 0 {
         return 0;
     }
     some_rows(reasons, tile, tlut, bytes, y, to)
@@ -106,15 +106,15 @@ fn short_rows(reasons: &[u8], tile: TileDescriptor, tlut: u32, bytes: usize, row
     requires { ⌜ (bytes ≡ rowBytes (tileOf tile)) × (bytes ≤ 8) × (rows ≤ bankSize) ⌝ }
     ensures { λ r. ⌜ r ≡ firstReason (now (reasons .entry)) (concat (tab rows (reachRow (tileOf tile) tlut))) ⌝ }
 {
-    let eights = (rows + 7) / 8;
-    for i in 0..eights {
-        let reason = eight_rows(
+    let fours = (rows + 3) / 4;
+    for i in 0..fours {
+        let reason = four_rows(
             reasons,
             tile,
             tlut,
             bytes,
-            8 * i,
-            extent::lesser(8 * i + 8, rows),
+            4 * i,
+            extent::lesser(4 * i + 4, rows),
         );
         if reason != 0 {
             return reason;

@@ -169,7 +169,7 @@ impl Span {
     // Where word w is in the bank.
     pub(crate) fn word(self, w: usize) -> usize
         requires { ⌜ Bounds self ⌝ }
-        requires { ⌜ w < bankSize ⌝ }
+        requires { ⌜ w ≤ bankSize * bankWords ⌝ }
         ensures { λ r. ⌜ r ≡ wordIn self w ⌝ }
         ensures { λ r. ⌜ (r < bankWords) × (self .twice ≡ true → r < lowWords) ⌝ }
     {
@@ -186,7 +186,7 @@ impl Span {
     }
 
     // All bits of those bytes, where the eight bytes of the word are one number.
-    fn lanes(self, w: usize) -> u64
+    pub(crate) fn lanes(self, w: usize) -> u64
         requires { ⌜ 8 * w < self .bytes ⌝ }
         ensures { λ r. ⌜ r ≡ lanesIn self w ⌝ }
     {

@@ -1,34 +1,57 @@
 -- `reach::rows::four_words` joins word after word. The loop's invariant: `all` is the words below k in one number. Assumes nothing.
 use mathlib.Core.Path.{_≡_}
-use Prim.Native.Nat.{_-_, _*_, _≤_}
+use mathlib.Core.Bool.{cond}
+use Prim.Native.Nat.{_+_, _-_, _*_, _≤_}
 use native.Mathlib.Numerals.{add-one}
 use native.Mathlib.Omega.{arith}
-use native.Mathlib.Nat.{mul-le-mul-right}
+use native.Mathlib.Nat.{mul-le-mul}
+use lib.Bits.{bitAnd}
 use borrow.Author.Needs.{needs}
+use Rattle.rules.specs.Base.{odd}
 use Rattle.reach.specs.Words.{ors}
 use Rattle.reach.specs.Span.{eightIn}
 use Rattle.reach.proofs.rows.four_words.Statement.{statement}
 use Rattle.reach.proofs.rows.four_words.Tie as tie
 
 abbrev Inv-loop : tie.InvT-loop
-Inv-loop reasons span step all₀ k₀ all k = (k ≤ 4) × (all ≡ ors k (λ n. eightIn reasons span (n * step)))
+Inv-loop reasons one line y even uneven all₀ k₀ all k =
+    (k ≤ 4) × (all ≡ ors k (λ n. bitAnd (cond (odd n) uneven even) (eightIn reasons one ((y + n) * line))))
 
 abbrev μ-loop : tie.MeasureT-loop
-μ-loop reasons span step all₀ k₀ all k = 4 - k
+μ-loop reasons one line y even uneven all₀ k₀ all k = 4 - k
+
+lanes-requires : tie.Need-lanes-requires Inv-loop μ-loop
+lanes-requires c κs = search needs
+
+lanes-requires-2 : tie.Need-lanes-requires-2 Inv-loop μ-loop
+lanes-requires-2 c κs = search needs
 
 loop-holds : tie.Need-loop-holds Inv-loop μ-loop
 unfolding ors
 loop-holds c = search needs
 
--- a word is three steps on at most
-far : (c : tie.In-loop Inv-loop μ-loop) → c .before .loop .k * c .before .before .before .args .step ≤ 3 * c .before .before .before .args .step
-far c = mul-le-mul-right (c .before .before .before .args .step) (omega arith)
+of-rows-requires : tie.Need-of-rows-requires Inv-loop μ-loop
+of-rows-requires c κs = search needs
+
+add-eight-of : tie.Need-add-eight-of Inv-loop μ-loop
+add-eight-of c = search needs
+
+-- how far on the word is
+far : (c : tie.After-of-rows Inv-loop μ-loop) → let l = c .before .before in
+    let a = l .before .before .before .before .args in
+    (a .y + l .loop .k) * a .line ≤ 4096 * 512
+far c =
+    let l = c .before .before in
+    let s = l .before .before .before .before in
+    let rows : s .args .y + l .loop .k ≤ 4096 = omega (arith, s .pre .1) in
+    let words : s .args .line ≤ 512 = omega (arith, s .pre .1) in
+    mul-le-mul rows words
 
 mul-eight-of : tie.Need-mul-eight-of Inv-loop μ-loop
 mul-eight-of c = omega (arith, far c)
 
 eight-of-requires : tie.Need-eight-of-requires Inv-loop μ-loop
-eight-of-requires c κs = let p = c .before .before .before .pre in (p .0, (p .1 .0, omega (arith, far c, p .1 .1)))
+eight-of-requires c κs = let p = c .before .before .before .before .before .before .pre in (p .0, (p .1 .0, far c))
 
 add-k : tie.Need-add-k Inv-loop μ-loop
 add-k c = search needs
@@ -38,14 +61,29 @@ loop-less c = search needs
 
 loop-again : tie.Need-loop-again Inv-loop μ-loop
 unfolding ors
-loop-again c = (search needs, rw (add-one, c .eight-of .ensures, c .before .before .loop .inv .1))
+loop-again c =
+    (search needs, rw (add-one, c .eight-of .ensures, c .before .of-rows .ensures, c .before .before .before .loop .inv .1))
 
 returns : tie.Need-returns Inv-loop μ-loop
 returns c =
-    let end : c .before .loop .k ≡ 4 = omega arith in
-    rw (c .before .loop .inv .1, end)
+    let l = c .before in
+    let end : l .loop .k ≡ 4 = omega arith in
+    rw (← l .before .before .lanes .ensures, ← l .before .lanes2 .ensures, l .loop .inv .1, end)
 
 pub four-words-spec : {M : Type 1} → statement M
 four-words-spec =
     tie.close
-    (tie.spec Inv-loop μ-loop loop-holds mul-eight-of eight-of-requires add-k loop-less loop-again returns)
+    (tie.spec
+    Inv-loop
+    μ-loop
+    lanes-requires
+    lanes-requires-2
+    loop-holds
+    of-rows-requires
+    add-eight-of
+    mul-eight-of
+    eight-of-requires
+    add-k
+    loop-less
+    loop-again
+    returns)

@@ -1,4 +1,4 @@
--- `reach::rows::short_rows` goes from eight rows to the next eight. The loop's invariant: the rows before have no reason. Assumes nothing.
+-- `reach::rows::short_rows` goes from four rows to the next four. The loop's invariant: the rows before have no reason. Assumes nothing.
 use mathlib.Core.Path.{_≡_, ap, sym, _∙_}
 use Prim.Native.Nat.{_+_, _*_, _-_, _≤_, min}
 use native.Mathlib.Omega.{arith}
@@ -11,22 +11,22 @@ use Rattle.reach.proofs.rows.short_rows.Statement.{statement}
 use Rattle.reach.proofs.rows.short_rows.Tie as tie
 
 abbrev Inv-loop : tie.InvT-loop
-Inv-loop reasons tile tlut bytes rows eights i₀ i =
-    (i ≤ eights) × (firstReason reasons (concat (tab (min (8 * i) rows) (reachRow (tileOf tile) tlut))) ≡ 0)
+Inv-loop reasons tile tlut bytes rows fours i₀ i =
+    (i ≤ fours) × (firstReason reasons (concat (tab (min (4 * i) rows) (reachRow (tileOf tile) tlut))) ≡ 0)
 
 abbrev μ-loop : tie.MeasureT-loop
-μ-loop reasons tile tlut bytes rows eights i₀ i = eights - i
+μ-loop reasons tile tlut bytes rows fours i₀ i = fours - i
 
-add-eights : tie.Need-add-eights Inv-loop μ-loop
-add-eights c = search needs
+add-fours : tie.Need-add-fours Inv-loop μ-loop
+add-fours c = search needs
 
 loop-holds : tie.Need-loop-holds Inv-loop μ-loop
 loop-holds c =
     let none : min 0 (c .before .args .rows) ≡ 0 = omega arith in
     (omega arith, rw none (none-yet (reason-search _) _))
 
-mul-eight-rows : tie.Need-mul-eight-rows Inv-loop μ-loop
-mul-eight-rows c = search needs
+mul-four-rows : tie.Need-mul-four-rows Inv-loop μ-loop
+mul-four-rows c = search needs
 
 mul-lesser : tie.Need-mul-lesser Inv-loop μ-loop
 mul-lesser c = search needs
@@ -37,27 +37,27 @@ add-lesser c = search needs
 lesser-requires : tie.Need-lesser-requires Inv-loop μ-loop
 lesser-requires c κs = search needs
 
-eight-rows-requires : tie.Need-eight-rows-requires Inv-loop μ-loop
-eight-rows-requires c κs =
+four-rows-requires : tie.Need-four-rows-requires Inv-loop μ-loop
+four-rows-requires c κs =
     let p = c .before .before .before .before .pre in
     let to = c .lesser .ensures in
     let q = p .1 .1 in
-    (p .0, (p .1 .0, (q .0, q .1, omega (arith, to), omega (arith, to), omega (arith, to, q .2), omega (arith, q .2))))
+    (p .0, (p .1 .0, ((q .0, q .1), (omega arith, omega (arith, q .2), omega (arith, to), omega (arith, to)))))
 
--- the rows before these eight have no reason
-before-these : (c : tie.After-eight-rows Inv-loop μ-loop) → let l = c .before .before .before in
+-- the rows before these four have no reason
+before-these : (c : tie.After-four-rows Inv-loop μ-loop) → let l = c .before .before .before in
     let a = l .before .before .args in
-    firstReason (a .reasons .now) (concat (tab (8 * l .loop .i) (reachRow (tileOf (a .tile)) (a .tlut)))) ≡ 0
+    firstReason (a .reasons .now) (concat (tab (4 * l .loop .i) (reachRow (tileOf (a .tile)) (a .tlut)))) ≡ 0
 before-these c =
     let l = c .before .before .before in
-    let whole : min (8 * l .loop .i) (l .before .before .args .rows) ≡ 8 * l .loop .i = omega arith in
+    let whole : min (4 * l .loop .i) (l .before .before .args .rows) ≡ 4 * l .loop .i = omega arith in
     rw (← whole) (l .loop .inv .1)
 
 returns : tie.Need-returns Inv-loop μ-loop
 returns c =
     let e = c .before in
     let l = e .before .before .before in
-    found-further (reason-search _) _ (8 * l .loop .i) _ _ (omega (arith, e .before .lesser .ensures)) (before-these e) _ (e .eight-rows .ensures)
+    found-further (reason-search _) _ (4 * l .loop .i) _ _ (omega (arith, e .before .lesser .ensures)) (before-these e) _ (e .four-rows .ensures)
     (c .if1 .taken)
 
 add-i : tie.Need-add-i Inv-loop μ-loop
@@ -71,14 +71,14 @@ loop-again c =
     let e = c .before in
     let l = e .before .before .before in
     let i = l .loop .i in
-    let more : min (8 * (i + 1)) (l .before .before .args .rows) ≡ 8 * i + (e .before .lesser .result - 8 * i) =
+    let more : min (4 * (i + 1)) (l .before .before .args .rows) ≡ 4 * i + (e .before .lesser .result - 4 * i) =
     omega (arith, e .before .lesser .ensures) in
-    (omega arith, rw more (none-further (reason-search _) _ (8 * i) _ (before-these e) (sym (e .eight-rows .ensures) ∙ c .if1 .left)))
+    (omega arith, rw more (none-further (reason-search _) _ (4 * i) _ (before-these e) (sym (e .four-rows .ensures) ∙ c .if1 .left)))
 
 returns-2 : tie.Need-returns-2 Inv-loop μ-loop
 returns-2 c =
     let l = c .before in
-    let end : min (8 * l .loop .i) (l .before .before .args .rows) ≡ l .before .before .args .rows = omega arith in
+    let end : min (4 * l .loop .i) (l .before .before .args .rows) ≡ l .before .before .args .rows = omega arith in
     let a = l .before .before .args in
     sym (ap (λ n. firstReason (a .reasons .now) (concat (tab n (reachRow (tileOf (a .tile)) (a .tlut))))) (sym end) ∙ l .loop .inv .1)
 
@@ -88,13 +88,13 @@ short-rows-spec =
     (tie.spec
     Inv-loop
     μ-loop
-    add-eights
+    add-fours
     loop-holds
-    mul-eight-rows
+    mul-four-rows
     mul-lesser
     add-lesser
     lesser-requires
-    eight-rows-requires
+    four-rows-requires
     returns
     add-i
     loop-less
