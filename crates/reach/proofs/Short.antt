@@ -5,6 +5,7 @@ use mathlib.Core.List.{List}
 use Prim.Native.Nat.{ℕ, _+_, _*_, _%_, _<_, _≤_}
 use native.Mathlib.Omega.{arith}
 use native.Mathlib.Decide.{ℕ-discrete}
+use native.Mathlib.Nat.{add-mul}
 use lib.Bits.{bitAnd}
 use lib.ListN.{getD}
 use borrow.Author.Tests.{eq-eqb, ne-eqb}
@@ -52,11 +53,14 @@ module _ (m : List ℕ) (t : Tile) (mode : ℕ) where
             rw z (clear-word m (row y) 0 small (rw (row-eight y) e))
 
     -- four rows are clear where one number is zero
-    pub four-clear : (y : ℕ) → y % 2 ≡ 0 → ors 4 (rowLanes m (row 0) (row 1) (t .line) y) ≡ 0 → (k : ℕ) → k < 4
+    pub four-clear : (y : ℕ) → y % 2 ≡ 0 → ors 4 (rowLanes m (row 0) (row 1) (t .line) (y * t .line)) ≡ 0 → (k : ℕ) → k < 4
         → firstReason m (reachRow t mode (y + k)) ≡ 0
-    four-clear y even e k h = row-clear (y + k) (go (ℕ-discrete (k % 2) 1) (ors-zero 4 (rowLanes m (row 0) (row 1) (t .line) y) e k h))
+    four-clear y even e k h =
+        row-clear (y + k)
+        (ap (λ w. bitAnd (lanesIn (row (y + k)) 0) (eightIn m (row 0) w)) (add-mul y k (t .line))
+        ∙ go (ℕ-discrete (k % 2) 1) (ors-zero 4 (rowLanes m (row 0) (row 1) (t .line) (y * t .line)) e k h))
       where
-        go : Dec (k % 2 ≡ 1) → rowLanes m (row 0) (row 1) (t .line) y k ≡ 0
-            → bitAnd (lanesIn (row (y + k)) 0) (eightIn m (row 0) ((y + k) * t .line)) ≡ 0
+        go : Dec (k % 2 ≡ 1) → rowLanes m (row 0) (row 1) (t .line) (y * t .line) k ≡ 0
+            → bitAnd (lanesIn (row (y + k)) 0) (eightIn m (row 0) (y * t .line + k * t .line)) ≡ 0
         go (yes o) z = rw (row-lanes (y + k) 1 (omega arith)) (rw (eq-eqb (k % 2) 1 o) at z)
         go (no o) z = rw (row-lanes (y + k) 0 (omega (arith, o))) (rw (ne-eqb (k % 2) 1 o) at z)

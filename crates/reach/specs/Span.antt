@@ -97,6 +97,6 @@ rowSpan t mode y =
       twice = bothHalves t mode;
     }
 
--- what the word of row y + k has in the bytes that the row reaches, from rows 0 and 1, where y is even
+-- what a row's word has in the bytes that the row reaches: row k from an even one on whose word is `from` words on from row 0's
 abbrev pub rowLanes : List ℕ → Span → Span → ℕ → ℕ → ℕ → ℕ
-rowLanes m one other line y k = bitAnd (cond (odd k) (lanesIn other 0) (lanesIn one 0)) (eightIn m one ((y + k) * line))
+rowLanes m one other line from k = bitAnd (cond (odd k) (lanesIn other 0) (lanesIn one 0)) (eightIn m one (from + k * line))

@@ -1,7 +1,7 @@
 // The first reason of a span, and of the rows of a tile. Rows of one word at most are asked four at a time.
 ghost use mathlib.Core.Bool.{cond};
 ghost use mathlib.Core.Path.{_≡_};
-ghost use Prim.Native.Nat.{_+_, _-_, _%_, _<_, _≤_};
+ghost use Prim.Native.Nat.{_+_, _-_, _*_, _%_, _<_, _≤_, min};
 ghost use lib.ListN.{length};
 ghost use Rattle.rules.specs.Base.{tab, concat};
 ghost use Rattle.rules.specs.Reach.{rowBytes, reachRow, reachPlain, firstReason};
@@ -59,44 +59,46 @@ fn of_rows(odd: bool, uneven: u64, even: u64) -> u64
     if odd { uneven } else { even }
 }
 
-// What the words of four rows from row y on have in the bytes that their rows reach, in one number. `one` and `other` are rows 0 and
-// 1: all even rows reach the same bytes of their words, and all odd ones.
-fn four_words(reasons: &[u8], one: Span, other: Span, line: usize, y: usize) -> u64
+// What the words of four rows have in the bytes that their rows reach, in one number. `one` and `other` are rows 0 and 1: all even rows
+// reach the same bytes of their words, and all odd ones. The first of the four is even, and `from` words on from row 0.
+fn four_words(reasons: &[u8], one: Span, other: Span, line: usize, from: usize) -> u64
     requires { ⌜ length (now reasons) ≡ reasonsSize ⌝ }
-    requires { ⌜ Bounds one × (0 < one .bytes) × (0 < other .bytes) × (line < bankWords) × (y + 4 ≤ bankSize) ⌝ }
-    ensures { λ r. ⌜ r ≡ ors 4 (λ k. rowLanes (now (reasons .entry)) one other line y k) ⌝ }
+    requires { ⌜ Bounds one × (0 < one .bytes) × (0 < other .bytes) × (line < bankWords) ⌝ }
+    requires { ⌜ from + 4 * bankWords ≤ bankSize * bankWords ⌝ }
+    ensures { λ r. ⌜ r ≡ ors 4 (λ k. rowLanes (now (reasons .entry)) one other line from k) ⌝ }
 {
     let even = one.lanes(0);
     let uneven = other.lanes(0);
     let mut all = 0u64;
     for k in 0..4 {
         all = all
-            | of_rows(k % 2 == 1, uneven, even) & reason::eight_of(reasons, one, (y + k) * line);
+            | of_rows(k % 2 == 1, uneven, even) & reason::eight_of(reasons, one, from + k * line);
     }
     all
 }
 
-// That of four rows of one word each, from row y on, or of those before row `to`: most have none, which is asked of all four at once.
+// That of four rows of one word each, from row y on, or of those there are: most have none, which is asked of all four at once.
 fn four_rows(
     reasons: &[u8],
     tile: TileDescriptor,
     tlut: u32,
     bytes: usize,
     y: usize,
-    to: usize,
+    rows: usize,
 ) -> u8
     requires { ⌜ length (now reasons) ≡ reasonsSize ⌝ }
     requires { ⌜ InRange (tileOf tile) ⌝ }
     requires { ⌜ (bytes ≡ rowBytes (tileOf tile)) × (bytes ≤ 8) ⌝ }
-    requires { ⌜ (y % 2 ≡ 0) × (y + 4 ≤ bankSize) × (y ≤ to) × (to ≤ y + 4) ⌝ }
-    ensures { λ r. ⌜ r ≡ firstReason (now (reasons .entry)) (concat (tab (to - y) (λ k. reachRow (tileOf tile) tlut (y + k)))) ⌝ }
+    requires { ⌜ (y % 2 ≡ 0) × (y + 4 ≤ bankSize) × (y ≤ rows) × (rows ≤ bankSize) ⌝ }
+    ensures { λ r. ⌜ r ≡ firstReason (now (reasons .entry)) (concat (tab (min (y + 4) rows - y) (λ k. reachRow (tileOf tile) tlut (y + k)))) ⌝ }
 {
+    let line = tile.line.0 as usize;
     let one = Span::of_row(tile, tlut, 0, bytes);
     let other = Span::of_row(tile, tlut, 1, bytes);
-    if four_words(reasons, one, other, tile.line.0 as usize, y) == 0 {
+    if four_words(reasons, one, other, line, y * line) == 0 {
         return 0;
     }
-    some_rows(reasons, tile, tlut, bytes, y, to)
+    some_rows(reasons, tile, tlut, bytes, y, extent::lesser(y + 4, rows))
 }
 
 // That of rows of one word each.
@@ -108,14 +110,7 @@ fn short_rows(reasons: &[u8], tile: TileDescriptor, tlut: u32, bytes: usize, row
 {
     let fours = (rows + 3) / 4;
     for i in 0..fours {
-        let reason = four_rows(
-            reasons,
-            tile,
-            tlut,
-            bytes,
-            4 * i,
-            extent::lesser(4 * i + 4, rows),
-        );
+        let reason = four_rows(reasons, tile, tlut, bytes, 4 * i, rows);
         if reason != 0 {
             return reason;
         }

@@ -14,11 +14,11 @@ use Rattle.reach.proofs.rows.four_words.Statement.{statement}
 use Rattle.reach.proofs.rows.four_words.Tie as tie
 
 abbrev Inv-loop : tie.InvT-loop
-Inv-loop reasons one line y even uneven all₀ k₀ all k =
-    (k ≤ 4) × (all ≡ ors k (λ n. bitAnd (cond (odd n) uneven even) (eightIn reasons one ((y + n) * line))))
+Inv-loop reasons one line from even uneven all₀ k₀ all k =
+    (k ≤ 4) × (all ≡ ors k (λ n. bitAnd (cond (odd n) uneven even) (eightIn reasons one (from + n * line))))
 
 abbrev μ-loop : tie.MeasureT-loop
-μ-loop reasons one line y even uneven all₀ k₀ all k = 4 - k
+μ-loop reasons one line from even uneven all₀ k₀ all k = 4 - k
 
 lanes-requires : tie.Need-lanes-requires Inv-loop μ-loop
 lanes-requires c κs = search needs
@@ -33,25 +33,25 @@ loop-holds c = search needs
 of-rows-requires : tie.Need-of-rows-requires Inv-loop μ-loop
 of-rows-requires c κs = search needs
 
-add-eight-of : tie.Need-add-eight-of Inv-loop μ-loop
-add-eight-of c = search needs
-
--- how far on the word is
+-- a word is three lines on at most
 far : (c : tie.After-of-rows Inv-loop μ-loop) → let l = c .before .before in
     let a = l .before .before .before .before .args in
-    (a .y + l .loop .k) * a .line ≤ 4096 * 512
+    l .loop .k * a .line ≤ 3 * 512
 far c =
     let l = c .before .before in
     let s = l .before .before .before .before in
-    let rows : s .args .y + l .loop .k ≤ 4096 = omega (arith, s .pre .1) in
-    let words : s .args .line ≤ 512 = omega (arith, s .pre .1) in
+    let rows : l .loop .k ≤ 3 = omega arith in
+    let words : s .args .line ≤ 512 = omega (arith, s .pre .1 .0) in
     mul-le-mul rows words
 
 mul-eight-of : tie.Need-mul-eight-of Inv-loop μ-loop
 mul-eight-of c = omega (arith, far c)
 
+add-eight-of : tie.Need-add-eight-of Inv-loop μ-loop
+add-eight-of c = omega (arith, far c, c .before .before .before .before .before .before .pre .1 .1)
+
 eight-of-requires : tie.Need-eight-of-requires Inv-loop μ-loop
-eight-of-requires c κs = let p = c .before .before .before .before .before .before .pre in (p .0, (p .1 .0, far c))
+eight-of-requires c κs = let p = c .before .before .before .before .before .before .pre in (p .0, (p .1 .0 .0, omega (arith, far c, p .1 .1)))
 
 add-k : tie.Need-add-k Inv-loop μ-loop
 add-k c = search needs
@@ -80,8 +80,8 @@ four-words-spec =
     lanes-requires-2
     loop-holds
     of-rows-requires
-    add-eight-of
     mul-eight-of
+    add-eight-of
     eight-of-requires
     add-k
     loop-less

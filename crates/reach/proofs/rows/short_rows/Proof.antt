@@ -28,36 +28,26 @@ loop-holds c =
 mul-four-rows : tie.Need-mul-four-rows Inv-loop μ-loop
 mul-four-rows c = search needs
 
-mul-lesser : tie.Need-mul-lesser Inv-loop μ-loop
-mul-lesser c = search needs
-
-add-lesser : tie.Need-add-lesser Inv-loop μ-loop
-add-lesser c = search needs
-
-lesser-requires : tie.Need-lesser-requires Inv-loop μ-loop
-lesser-requires c κs = search needs
-
 four-rows-requires : tie.Need-four-rows-requires Inv-loop μ-loop
 four-rows-requires c κs =
-    let p = c .before .before .before .before .pre in
-    let to = c .lesser .ensures in
+    let p = c .before .before .before .pre in
     let q = p .1 .1 in
-    (p .0, (p .1 .0, ((q .0, q .1), (omega arith, omega (arith, q .2), omega (arith, to), omega (arith, to)))))
+    (p .0, (p .1 .0, ((q .0, q .1), (omega arith, omega (arith, q .2), omega arith, q .2))))
 
 -- the rows before these four have no reason
-before-these : (c : tie.After-four-rows Inv-loop μ-loop) → let l = c .before .before .before in
+before-these : (c : tie.After-four-rows Inv-loop μ-loop) → let l = c .before .before in
     let a = l .before .before .args in
     firstReason (a .reasons .now) (concat (tab (4 * l .loop .i) (reachRow (tileOf (a .tile)) (a .tlut)))) ≡ 0
 before-these c =
-    let l = c .before .before .before in
+    let l = c .before .before in
     let whole : min (4 * l .loop .i) (l .before .before .args .rows) ≡ 4 * l .loop .i = omega arith in
     rw (← whole) (l .loop .inv .1)
 
 returns : tie.Need-returns Inv-loop μ-loop
 returns c =
     let e = c .before in
-    let l = e .before .before .before in
-    found-further (reason-search _) _ (4 * l .loop .i) _ _ (omega (arith, e .before .lesser .ensures)) (before-these e) _ (e .four-rows .ensures)
+    let l = e .before .before in
+    found-further (reason-search _) _ (4 * l .loop .i) _ _ (omega arith) (before-these e) _ (e .four-rows .ensures)
     (c .if1 .taken)
 
 add-i : tie.Need-add-i Inv-loop μ-loop
@@ -69,10 +59,9 @@ loop-less c = search needs
 loop-again : tie.Need-loop-again Inv-loop μ-loop
 loop-again c =
     let e = c .before in
-    let l = e .before .before .before in
+    let l = e .before .before in
     let i = l .loop .i in
-    let more : min (4 * (i + 1)) (l .before .before .args .rows) ≡ 4 * i + (e .before .lesser .result - 4 * i) =
-    omega (arith, e .before .lesser .ensures) in
+    let more : min (4 * (i + 1)) (l .before .before .args .rows) ≡ 4 * i + (min (4 * i + 4) (l .before .before .args .rows) - 4 * i) = omega arith in
     (omega arith, rw more (none-further (reason-search _) _ (4 * i) _ (before-these e) (sym (e .four-rows .ensures) ∙ c .if1 .left)))
 
 returns-2 : tie.Need-returns-2 Inv-loop μ-loop
@@ -91,9 +80,6 @@ short-rows-spec =
     add-fours
     loop-holds
     mul-four-rows
-    mul-lesser
-    add-lesser
-    lesser-requires
     four-rows-requires
     returns
     add-i
