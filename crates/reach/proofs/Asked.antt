@@ -66,7 +66,8 @@ module _ (m : List ℕ) where
   at-once s some r e h =
       rw (reached-words s)
       (first-found (reason-search m) (wordReached s) 0 (wordCount s) (omega arith) (none-yet (reason-search m) _) r
-      (first-found (reason-search m) (placeReached s 0) 0 (placesOf s 0) (places-some s 0 (omega arith)) (none-yet (reason-search m) _) r e h)
+      (first-found (reason-search m) (placeReached s 0) 0 (placesOf s 0) (places-some s 0 (omega arith)) (none-yet (reason-search m) _) r e
+      h)
       h)
 
   -- modes 0 and 1 have no palette

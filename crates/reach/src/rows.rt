@@ -90,7 +90,8 @@ fn four_rows(
     requires { ⌜ InRange (tileOf tile) ⌝ }
     requires { ⌜ (bytes ≡ rowBytes (tileOf tile)) × (bytes ≤ 8) ⌝ }
     requires { ⌜ (y % 2 ≡ 0) × (y + 4 ≤ bankSize) × (y ≤ rows) × (rows ≤ bankSize) ⌝ }
-    ensures { λ r. ⌜ r ≡ firstReason (now (reasons .entry)) (concat (tab (min (y + 4) rows - y) (λ k. reachRow (tileOf tile) tlut (y + k)))) ⌝ }
+    ensures { λ r. ⌜ r
+        ≡ firstReason (now (reasons .entry)) (concat (tab (min (y + 4) rows - y) (λ k. reachRow (tileOf tile) tlut (y + k)))) ⌝ }
 {
     let line = tile.line.0 as usize;
     let one = Span::of_row(tile, tlut, 0, bytes);

@@ -15,7 +15,8 @@ returns : tie.Need-returns
 returns c h =
     let k = c .before .before in
     let a = k .before .args in
-    clear-word _ (a .span) (a .w) (λ i. omega (arith, k .shared-slice-known .given i)) (rw (← c .before .eight-of .ensures) (c .is-zero .ensures h))
+    clear-word _ (a .span) (a .w) (λ i. omega (arith, k .shared-slice-known .given i))
+    (rw (← c .before .eight-of .ensures) (c .is-zero .ensures h))
 
 pub is-clear-spec : {M : Type 1} → statement M
 is-clear-spec = tie.close (tie.spec eight-of-requires is-zero-requires returns)

@@ -51,7 +51,9 @@ add-eight-of : tie.Need-add-eight-of Inv-loop μ-loop
 add-eight-of c = omega (arith, far c, c .before .before .before .before .before .before .pre .1 .1)
 
 eight-of-requires : tie.Need-eight-of-requires Inv-loop μ-loop
-eight-of-requires c κs = let p = c .before .before .before .before .before .before .pre in (p .0, (p .1 .0 .0, omega (arith, far c, p .1 .1)))
+eight-of-requires c κs =
+    let p = c .before .before .before .before .before .before .pre in
+    (p .0, (p .1 .0 .0, omega (arith, far c, p .1 .1)))
 
 add-k : tie.Need-add-k Inv-loop μ-loop
 add-k c = search needs

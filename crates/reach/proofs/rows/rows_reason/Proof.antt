@@ -25,7 +25,8 @@ some : (c : tie.After-of-row) → 0 < c .of-row .result .bytes
 some c = rw (c .of-row .ensures .1 .1) (row-bytes-some _)
 
 place-reason-requires : tie.Need-place-reason-requires
-place-reason-requires c κs = (c .before .before .before .pre .0, (c .of-row .ensures .1 .0, some c, places-some (c .of-row .result) 0 (some c)))
+place-reason-requires c κs =
+    (c .before .before .before .pre .0, (c .of-row .ensures .1 .0, some c, places-some (c .of-row .result) 0 (some c)))
 
 returns : tie.Need-returns
 unfolding reachPlain
@@ -43,7 +44,8 @@ short-rows-requires : tie.Need-short-rows-requires
 short-rows-requires c κs =
     let e = c .before .before .before .before .before in
     let p = e .before .before .pre in
-    (p .0, (p .1, (e .row-bytes .ensures, omega (arith, c .if2 .taken), omega (arith, c .before .reach-rows .ensures, rows-le (tileOf (e .before .before .args .tile))))))
+    let least = rows-le (tileOf (e .before .before .args .tile)) in
+    (p .0, (p .1, (e .row-bytes .ensures, omega (arith, c .if2 .taken), omega (arith, c .before .reach-rows .ensures, least))))
 
 returns-2 : tie.Need-returns-2
 unfolding reachPlain
@@ -52,7 +54,8 @@ returns-2 c = rw (← c .before .before .reach-rows .ensures) (c .short-rows .en
 some-rows-requires : tie.Need-some-rows-requires
 some-rows-requires c κs =
     let e = c .before .before .before .before .before in
-    (e .before .before .pre .0, (e .row-bytes .ensures, omega arith, omega (arith, c .before .reach-rows .ensures, rows-le (tileOf (e .before .before .args .tile)))))
+    let least = rows-le (tileOf (e .before .before .args .tile)) in
+    (e .before .before .pre .0, (e .row-bytes .ensures, omega arith, omega (arith, c .before .reach-rows .ensures, least)))
 
 returns-3 : tie.Need-returns-3
 unfolding reachPlain

@@ -61,7 +61,8 @@ loop-again c =
     let e = c .before in
     let l = e .before .before in
     let i = l .loop .i in
-    let more : min (4 * (i + 1)) (l .before .before .args .rows) ≡ 4 * i + (min (4 * i + 4) (l .before .before .args .rows) - 4 * i) = omega arith in
+    let rows = l .before .before .args .rows in
+    let more : min (4 * (i + 1)) rows ≡ 4 * i + (min (4 * i + 4) rows - 4 * i) = omega arith in
     (omega arith, rw more (none-further (reason-search _) _ (4 * i) _ (before-these e) (sym (e .four-rows .ensures) ∙ c .if1 .left)))
 
 returns-2 : tie.Need-returns-2 Inv-loop μ-loop
