@@ -44,8 +44,8 @@ short-rows-requires : tie.Need-short-rows-requires
 short-rows-requires c κs =
     let e = c .before .before .before .before .before in
     let p = e .before .before .pre in
-    let least = rows-le (tileOf (e .before .before .args .tile)) in
-    (p .0, (p .1, (e .row-bytes .ensures, omega (arith, c .if2 .taken), omega (arith, c .before .reach-rows .ensures, least))))
+    let most = rows-le (tileOf (e .before .before .args .tile)) in
+    (p .0, (p .1, (e .row-bytes .ensures, omega (arith, c .if2 .taken), omega (arith, c .before .reach-rows .ensures, most))))
 
 returns-2 : tie.Need-returns-2
 unfolding reachPlain
@@ -54,8 +54,8 @@ returns-2 c = rw (← c .before .before .reach-rows .ensures) (c .short-rows .en
 some-rows-requires : tie.Need-some-rows-requires
 some-rows-requires c κs =
     let e = c .before .before .before .before .before in
-    let least = rows-le (tileOf (e .before .before .args .tile)) in
-    (e .before .before .pre .0, (e .row-bytes .ensures, omega arith, omega (arith, c .before .reach-rows .ensures, least)))
+    let most = rows-le (tileOf (e .before .before .args .tile)) in
+    (e .before .before .pre .0, (e .row-bytes .ensures, omega arith, omega (arith, c .before .reach-rows .ensures, most)))
 
 returns-3 : tie.Need-returns-3
 unfolding reachPlain
