@@ -373,10 +373,12 @@ impl Bench {
         }
         let between = |address| address < 2048 && address % 2 == 1;
         self.rejection("reasons between the indices, 16-bit palette tile of 64 by 64", &square(2, 2, 2), between);
-        for width in [5, 1] {
-            let tile = Tile { line: 1, width, height: 256, ..square(4, 1, 0) };
-            self.rejection(&format!("no reasons, 8-bit tile of {width} by 256"), &tile, |_| false);
+        let strip = |width, height| Tile { line: 1, width, height, ..square(4, 1, 0) };
+        for (width, height) in [(8, 256), (5, 256), (1, 256), (1, 16), (1, 1)] {
+            let name = format!("no reasons, 8-bit tile of {width} by {height}");
+            self.rejection(&name, &strip(width, height), |_| false);
         }
+        self.rejection("a reason in the last row, 8-bit tile of 1 by 256", &strip(1, 256), |address| address == 2044);
         self.rejection("a reason at the first address, 16-bit tile of 64 by 64", &square(0, 2, 0), |address| address == 0);
     }
 

@@ -11,10 +11,10 @@ use Rattle.rules.specs.Tile.{Tile, paletteBase}
 use Rattle.rules.specs.Reach.{reach, paletteOrder, orElse, firstReason, rejection}
 use Rattle.reach.specs.Words.{eightBytes, twin}
 use Rattle.reach.specs.declared.span.Span.{Span}
-use Rattle.reach.specs.Span.{wordIn, placesOf, byteOf, lanesIn, placeReached, wordReached}
-use Rattle.reach.proofs.Joined.{none-all, reason-search}
-use Rattle.reach.proofs.Bytes.{zero-lane}
-use Rattle.reach.proofs.Spans.{byte-lt}
+use Rattle.reach.specs.Span.{wordCount, wordIn, placesOf, byteOf, lanesIn, eightIn, reached, placeReached, wordReached}
+use Rattle.reach.proofs.Joined.{none-yet, none-all, first-found, reason-search}
+use Rattle.reach.proofs.Bytes.{and-or, or-zero, zero-lane}
+use Rattle.reach.proofs.Spans.{places-some, byte-lt, reached-words}
 
 or-none : (x : ℕ) → orElse x 0 ≡ x
 or-none zero = refl
@@ -45,20 +45,30 @@ module _ (m : List ℕ) where
     place-both k h = rw h (both (at k))
 
     -- a word has no reason where its lanes have none, nor those of the word that it stands for
-    pub clear-word : ((i : ℕ) → getD m i 0 < 256) → bitAnd (lanesIn s w) (eightBytes m (8 * wordIn s w)) ≡ 0
-        → (s .twice ≡ true → bitAnd (lanesIn s w) (eightBytes m (8 * wordIn s w + paletteBase)) ≡ 0)
-        → firstReason m (wordReached s w) ≡ 0
-    unfolding wordReached lanesIn
-    clear-word small own other = none-all (reason-search m) (placeReached s w) (placesOf s w) (λ k h. place k h (s .twice) refl)
+    pub clear-word : ((i : ℕ) → getD m i 0 < 256) → bitAnd (lanesIn s w) (eightIn m s w) ≡ 0 → firstReason m (wordReached s w) ≡ 0
+    unfolding wordReached lanesIn eightIn
+    clear-word small e = none-all (reason-search m) (placeReached s w) (placesOf s w) (λ k h. place k h (s .twice) refl)
       where
         clear : (k from : ℕ) → k < placesOf s w → bitAnd (lanesIn s w) (eightBytes m from) ≡ 0 → getD m (from + byteOf s k) 0 ≡ 0
         clear k from h e = zero-lane m from (placesOf s w) (byteOf s) e k h (byte-lt s w k h) (small _)
 
         place : (k : ℕ) → k < placesOf s w → (b : Bool) → s .twice ≡ b → firstReason m (placeReached s w k) ≡ 0
-        place k h false t = sym (place-once k t) ∙ clear k (8 * wordIn s w) h own
+        place k h false t = sym (place-once k t) ∙ clear k (8 * wordIn s w) h (rw t at e)
         place k h true t =
             let upper : at k + paletteBase ≡ (8 * wordIn s w + paletteBase) + byteOf s k = omega arith in
-            sym (place-both k t) ∙ rw (clear k (8 * wordIn s w) h own, upper) (clear k (8 * wordIn s w + paletteBase) h (other t))
+            let z = or-zero _ _ (sym (and-or (lanesIn s w) _ _) ∙ (rw t at e)) in
+            sym (place-both k t) ∙ rw (clear k (8 * wordIn s w) h (z .0), upper) (clear k (8 * wordIn s w + paletteBase) h (z .1))
+
+  -- what the first place of a span has is what the span has
+  pub at-once : (s : Span) → 0 < s .bytes → (r : ℕ) → r ≡ firstReason m (placeReached s 0 0) → (r ≡ 0 → ⊥)
+      → r ≡ firstReason m (reached s)
+  unfolding wordReached
+  at-once s some r e h =
+      rw (reached-words s)
+      (first-found (reason-search m) (wordReached s) 0 (wordCount s) (omega arith) (none-yet (reason-search m) _) r
+      (first-found (reason-search m) (placeReached s 0) 0 (placesOf s 0) (places-some s 0 (omega arith)) (none-yet (reason-search m) _) r e
+      h)
+      h)
 
   -- modes 0 and 1 have no palette
   pub no-palette : (t : Tile) (mode : ℕ) → mode < 2 → 0 ≡ firstReason m (paletteOrder t mode)

@@ -111,7 +111,7 @@ some-bit b s h (suc n) l =
         there c false (no q) = rw (le-ltb s n (omega (arith, q)), le-ltb s (suc n) (omega (arith, q, e)))
 
 -- where all of some numbers are zero in one, each is
-ors-zero : (n : ℕ) (f : ℕ → ℕ) → ors n f ≡ 0 → (k : ℕ) → k < n → f k ≡ 0
+pub ors-zero : (n : ℕ) (f : ℕ → ℕ) → ors n f ≡ 0 → (k : ℕ) → k < n → f k ≡ 0
 unfolding ors
 ors-zero zero f e k h = absurd (omega arith)
 ors-zero (suc n) f e k h = go (ℕ-discrete k n) (λ z l. ors-zero n f z k l)

@@ -2,12 +2,12 @@
 use mathlib.Core.Path.{_≡_, refl, ap, sym, _∙_}
 use mathlib.Core.Bool.{Bool, true, false, _||_}
 use mathlib.Core.List.{List, [], _∷_, _++_}
-use Prim.Native.Nat.{ℕ, zero, suc, _+_, _-_, _<_}
+use Prim.Native.Nat.{ℕ, zero, suc, _+_, _-_, _<_, _≤_}
 use native.Mathlib.Numerals.{add-one}
 use native.Mathlib.Omega.{arith}
 use Rattle.rules.specs.Base.{tab, tabFrom, concat, any, marks}
 use Rattle.rules.specs.Reach.{firstReason}
-use Rattle.rules.proofs.Tables.{tab-cut, concat-append, concat-more}
+use Rattle.rules.proofs.Tables.{tab-same, tab-cut, concat-append, concat-more}
 use Rattle.rules.proofs.Maps.{marks-append}
 use Rattle.rules.proofs.Reasons.{or-first, first-reason-append}
 
@@ -18,6 +18,12 @@ marks-none m f = refl
 pub marks-more : (m : List ℕ) (f : ℕ → List ℕ) (n : ℕ) (now next : List ℕ)
     → now ≡ marks m (concat (tab n f)) → next ≡ marks now (f n) → next ≡ marks m (concat (tab (n + 1) f))
 marks-more m f n now next p q = rw (concat-more, marks-append, ← p, q)
+
+-- lists from the first on are all lists
+pub from-first : {A : Type 0} (n : ℕ) (f : ℕ → List A) → concat (tab (n - 0) (λ k. f (0 + k))) ≡ concat (tab n f)
+from-first n f =
+    let all : n - 0 ≡ n = omega arith in
+    rw all (ap concat (tab-same n (λ k. f (0 + k)) f (λ k h. ap f (omega arith))))
 
 -- A search F of lists: in two lists it finds what it finds in the first, and where that is nothing, what it finds in the second.
 pub record Search {A R : Type 0} (F : List A → R) (none : R) : Type 0 where
@@ -38,17 +44,32 @@ module _ {A R : Type 0} {F : List A → R} {none : R} (s : Search F none) (f : �
   none-all zero e = none-yet
   none-all (suc n) e = rw (← add-one n) (none-more n (none-all n (λ k h. e k (omega arith))) (e n (omega arith)))
 
+  -- the same of m lists more, where nothing is in the first n
+  abbrev further : ℕ → ℕ → List A
+  further n m = concat (tab m (λ j. f (n + j)))
+
+  cut : (n m : ℕ) → F (concat (tab n f)) ≡ none → F (concat (tab (n + m) f)) ≡ F (further n m)
+  cut n m e = ap (λ l. F (concat l)) (tab-cut n m f) ∙ ap F (concat-append (tab n f) _) ∙ s .next _ _ e
+
+  pub none-further : (n m : ℕ) → F (concat (tab n f)) ≡ none → F (further n m) ≡ none → F (concat (tab (n + m) f)) ≡ none
+  none-further n m e h = cut n m e ∙ h
+
+  pub found-further : (n m k : ℕ) → n + m ≤ k → F (concat (tab n f)) ≡ none → (r : R) → r ≡ F (further n m) → (r ≡ none → ⊥)
+      → r ≡ F (concat (tab k f))
+  found-further n m k h e r here some =
+      let long : k ≡ (n + m) + (k - (n + m)) = omega arith in
+      let last : F (concat (tab (n + m) f)) ≡ r = cut n m e ∙ sym here in
+      sym
+      (ap (λ k. F (concat (tab k f))) long
+      ∙ ap (λ l. F (concat l)) (tab-cut (n + m) (k - (n + m)) f)
+      ∙ ap F (concat-append (tab (n + m) f) _)
+      ∙ s .stays _ _ (λ z. some (sym last ∙ z))
+      ∙ last)
+
   -- what is found in list i, where nothing was before it, is what all of them together have
   pub first-found : (i n : ℕ) → i < n → F (concat (tab i f)) ≡ none → (r : R) → r ≡ F (f i) → (r ≡ none → ⊥) → r ≡ F (concat (tab n f))
   first-found i n h e r here some =
-      let long : n ≡ (i + 1) + (n - (i + 1)) = omega arith in
-      let last : F (concat (tab (i + 1) f)) ≡ r = ap F (concat-more i f) ∙ s .next _ _ e ∙ sym here in
-      sym
-      (ap (λ k. F (concat (tab k f))) long
-      ∙ ap (λ l. F (concat l)) (tab-cut (i + 1) (n - (i + 1)) f)
-      ∙ ap F (concat-append (tab (i + 1) f) _)
-      ∙ s .stays _ _ (λ z. some (sym last ∙ z))
-      ∙ last)
+      found-further i 1 n (omega arith) e r (here ∙ sym (s .next _ _ e) ∙ ap F (sym (concat-more i f)) ∙ cut i 1 e) some
 
 -- the test that something in a list passes
 module _ {A : Type 0} (p : A → Bool) where

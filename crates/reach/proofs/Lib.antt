@@ -8,6 +8,7 @@ pub mod Axes
 pub mod Spans
 pub mod Reached
 pub mod Asked
+pub mod Short
 pub mod Pairs
 pub mod Lanes
 pub mod One

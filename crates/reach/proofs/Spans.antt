@@ -22,7 +22,7 @@ use Rattle.reach.specs.Words.{ors, lowWords, twin, wordJoined, wordMeets
 use Rattle.reach.proofs.Words.{word-marks, word-any}
 use Rattle.reach.specs.declared.span.Span.{Span}
 use Rattle.reach.specs.Span.{Bounds, wordsOf, bytesOf, stepOf, placesIn, reachedAt, reached, inHalves}
-use Rattle.reach.specs.Span.{wordCount, wordIn, placesOf, byteOf, bitsIn, placeReached, wordReached}
+use Rattle.reach.specs.Span.{lowHalf, bothHalves, rowSpan, wordCount, wordIn, placesOf, byteOf, bitsIn, placeReached, wordReached}
 use Rattle.reach.proofs.Axes.{row-bytes-le}
 
 -- the swap of halves stays in its word
@@ -81,6 +81,14 @@ module _ (s : Span) where
   places-le w = go (s .sparse)
     where
       go : (b : Bool) → placesIn b (min (s .bytes - 8 * w) 8) ≤ 8
+      go true = omega arith
+      go false = omega arith
+
+  -- and a word of the span has one
+  pub places-some : (w : ℕ) → 8 * w < s .bytes → 0 < placesOf s w
+  places-some w h = go (s .sparse)
+    where
+      go : (b : Bool) → 0 < placesIn b (min (s .bytes - 8 * w) 8)
       go true = omega arith
       go false = omega arith
 
@@ -179,14 +187,7 @@ row-place low first word line y x o f =
     rw (f, e, swap-word o (y * line) x, ← at) (wrapped-once low (word + y * line) (swapOdd o x))
 
 module _ (t : Tile) (mode : ℕ) where
-  -- addresses wrap at the palette; each stands for one in the upper half as well
-  abbrev lowHalf : Bool
-  lowHalf = tlut mode || isRgba32 (t .fmt) (t .siz)
-
-  abbrev bothHalves : Bool
-  bothHalves = ltb mode 2 && isRgba32 (t .fmt) (t .siz)
-
-  low-where-both : bothHalves ≡ true → lowHalf ≡ true
+  low-where-both : bothHalves t mode ≡ true → lowHalf t mode ≡ true
   low-where-both = go (ltb mode 2) (tlut mode) (isRgba32 (t .fmt) (t .siz))
     where
       go : (a b c : Bool) → (a && c) ≡ true → (b || c) ≡ true
@@ -203,8 +204,8 @@ module _ (t : Tile) (mode : ℕ) where
         bytes = modulus t mode;
         odd = false;
         sparse = false;
-        low = lowHalf;
-        twice = bothHalves;
+        low = lowHalf t mode;
+        twice = bothHalves t mode;
       }
 
   pub whole-reached : reached wholeSpan ≡ reachWhole t mode
@@ -213,36 +214,35 @@ module _ (t : Tile) (mode : ℕ) where
       let n : placesIn false (modulus t mode) ≡ modulus t mode = omega arith in
       ap concat
       (ap (λ n. tab n (reachedAt wholeSpan)) n
-      ∙ tab-same (modulus t mode) (reachedAt wholeSpan) (doubled t mode) (λ k h. ap (twin bothHalves) (at k h)))
+      ∙ tab-same (modulus t mode) (reachedAt wholeSpan) (doubled t mode) (λ k h. ap (twin (bothHalves t mode)) (at k h)))
     where
       at : (k : ℕ) → k < modulus t mode → (8 * 0 + 1 * k) % modulus t mode ≡ k
       at k h = let e : 8 * 0 + 1 * k ≡ k = omega arith in rw e (mod-eq-of-lt h)
 
-  -- row y as a span, from its first word on
-  abbrev rowSpan : WordAddr → ℕ → Span
-  rowSpan first y =
-      record {
+  -- a row, from its first word on
+  pub row-from : (first : WordAddr) (y : ℕ) → first .0 ≡ rowSpan t mode y .first .0
+      → record {
         first = first;
         bytes = rowBytes t;
         odd = odd y;
         sparse = tlut mode && leb 2 (t .siz);
-        low = lowHalf;
-        twice = bothHalves;
-      }
+        low = lowHalf t mode;
+        twice = bothHalves t mode;
+      } ≡ rowSpan t mode y
+  row-from first y e = rw e
 
-  pub row-reached : (first : WordAddr) (y : ℕ) → first .0 ≡ (t .tmem-addr + y * t .line) % bankWords
-      → reached (rowSpan first y) ≡ reachRow t mode y
+  pub row-reached : (y : ℕ) → reached (rowSpan t mode y) ≡ reachRow t mode y
   unfolding reached reachedAt reachRow reachAt doubled twin
-  row-reached first y e =
+  row-reached y =
       ap concat
-      (tab-same (xCount t mode) (reachedAt (rowSpan first y)) (reachAt t mode y)
-      (λ i h. ap (twin bothHalves) (row-place lowHalf (first .0) (t .tmem-addr) (t .line) y (xStep t mode * i) (odd y) e)))
+      (tab-same (xCount t mode) (reachedAt (rowSpan t mode y)) (reachAt t mode y)
+      (λ i h. ap (twin (bothHalves t mode)) (row-place (lowHalf t mode) _ (t .tmem-addr) (t .line) y (xStep t mode * i) (odd y) refl)))
 
-  pub row-bounds : (first : WordAddr) (y : ℕ) → Bounds (rowSpan first y)
-  row-bounds first y = record { bytes = row-bytes-le t; twice = low-where-both }
+  pub row-bounds : (y : ℕ) → Bounds (rowSpan t mode y)
+  row-bounds y = record { bytes = row-bytes-le t; twice = low-where-both }
 
   pub whole-bounds : Bounds wholeSpan
-  whole-bounds = record { bytes = go lowHalf; twice = low-where-both }
+  whole-bounds = record { bytes = go (lowHalf t mode); twice = low-where-both }
     where
       go : (low : Bool) → bytesOf low ≤ bankSize
       go true = omega arith

@@ -8,5 +8,6 @@ pub mod reach;
 mod reason;
 mod refused;
 pub mod rejection;
+mod rows;
 mod span;
 mod word;

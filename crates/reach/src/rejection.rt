@@ -2,51 +2,16 @@
 ghost use mathlib.Core.Path.{_≡_};
 ghost use lib.ListN.{length};
 ghost use Rattle.rules.specs.Calls.{rejectionCall};
-ghost use Rattle.rules.specs.Reach.{reachPlain, reach, paletteOrder, firstReason, rejection};
+ghost use Rattle.rules.specs.Reach.{reach, paletteOrder, firstReason, rejection};
 ghost use Rattle.rdp.specs.View.{tileOf, reasonAnswered};
 ghost use Rattle.rules.specs.Tile.{reasonsSize, InRange};
-ghost use Rattle.reach.specs.Span.{Bounds, reached};
-use crate::extent;
-use crate::reason;
 use crate::refused;
+use crate::rows;
 use crate::span::Span;
 use rdp::answer::ReasonAnswer;
 use rdp::tile::TileDescriptor;
 use tile_sampling::sampling::TileSampling;
 use tmem::bank::Bank;
-
-// The first reason of a span, 0 for none.
-fn span_reason(reasons: &[u8], span: Span) -> u8
-    requires { ⌜ length (now reasons) ≡ reasonsSize ⌝ }
-    requires { ⌜ Bounds span ⌝ }
-    ensures { λ r. ⌜ r ≡ firstReason (now (reasons .entry)) (reached span) ⌝ }
-{
-    let words = span.words();
-    for w in 0..words {
-        let reason = reason::word_reason(reasons, span, w);
-        if reason != 0 {
-            return reason;
-        }
-    }
-    0
-}
-
-// That of the rows, up to their period.
-fn rows_reason(reasons: &[u8], tile: TileDescriptor, tlut: u32) -> u8
-    requires { ⌜ length (now reasons) ≡ reasonsSize ⌝ }
-    requires { ⌜ InRange (tileOf tile) ⌝ }
-    ensures { λ r. ⌜ r ≡ firstReason (now (reasons .entry)) (reachPlain (tileOf tile) tlut) ⌝ }
-{
-    let bytes = extent::row_bytes(tile);
-    let rows = extent::reach_rows(tile);
-    for y in 0..rows {
-        let reason = span_reason(reasons, Span::of_row(tile, tlut, y, bytes));
-        if reason != 0 {
-            return reason;
-        }
-    }
-    0
-}
 
 // That of the reach.
 fn reach_reason(reasons: &[u8], tile: TileDescriptor, tlut: u32) -> u8
@@ -56,9 +21,9 @@ fn reach_reason(reasons: &[u8], tile: TileDescriptor, tlut: u32) -> u8
 {
     let sampling = TileSampling::from_tile(tile, tlut);
     if sampling.lookup {
-        return span_reason(reasons, Span::whole(tile, tlut));
+        return rows::span_reason(reasons, Span::whole(tile, tlut));
     }
-    rows_reason(reasons, tile, tlut)
+    rows::rows_reason(reasons, tile, tlut)
 }
 
 // That of the palette, which modes 2 and 3 alone have.
@@ -68,7 +33,7 @@ fn palette_reason(reasons: &[u8], tile: TileDescriptor, tlut: u32) -> u8
     ensures { λ r. ⌜ r ≡ firstReason (now (reasons .entry)) (paletteOrder (tileOf tile) tlut) ⌝ }
 {
     if 2 <= tlut {
-        return span_reason(reasons, Span::palette(tile));
+        return rows::span_reason(reasons, Span::palette(tile));
     }
     0
 }

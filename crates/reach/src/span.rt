@@ -10,7 +10,7 @@ ghost use Rattle.rules.specs.Tile.{bankSize, bankWords, paletteBase, InRange};
 ghost use Rattle.rdp.specs.View.{tileOf};
 ghost use Rattle.reach.specs.Words.{lowWords};
 ghost use Rattle.reach.specs.Span.{Bounds, wordsOf, reached, wordCount, wordIn, placesOf, byteOf};
-ghost use Rattle.reach.specs.Span.{bitsIn, inHalves, lanesIn};
+ghost use Rattle.reach.specs.Span.{rowSpan, bitsIn, inHalves, lanesIn};
 use crate::extent;
 use rdp::tile::TileDescriptor;
 use rdp::units;
@@ -99,6 +99,7 @@ impl Span {
         requires { ⌜ (y < bankSize) × (bytes ≡ rowBytes (tileOf tile)) ⌝ }
         ensures { λ r. ⌜ reached r ≡ reachRow (tileOf tile) tlut y ⌝ }
         ensures { λ r. ⌜ Bounds r ⌝ }
+        ensures { λ r. ⌜ r ≡ rowSpan (tileOf tile) tlut y ⌝ }
     {
         let first = tile.tmem_addr.row(tile.line, y as u32);
         let rgba32 = is_rgba32(tile);
@@ -168,7 +169,7 @@ impl Span {
     // Where word w is in the bank.
     pub(crate) fn word(self, w: usize) -> usize
         requires { ⌜ Bounds self ⌝ }
-        requires { ⌜ w < bankWords ⌝ }
+        requires { ⌜ w ≤ bankSize * bankWords ⌝ }
         ensures { λ r. ⌜ r ≡ wordIn self w ⌝ }
         ensures { λ r. ⌜ (r < bankWords) × (self .twice ≡ true → r < lowWords) ⌝ }
     {
@@ -185,7 +186,7 @@ impl Span {
     }
 
     // All bits of those bytes, where the eight bytes of the word are one number.
-    fn lanes(self, w: usize) -> u64
+    pub(crate) fn lanes(self, w: usize) -> u64
         requires { ⌜ 8 * w < self .bytes ⌝ }
         ensures { λ r. ⌜ r ≡ lanesIn self w ⌝ }
     {

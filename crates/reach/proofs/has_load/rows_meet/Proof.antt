@@ -35,7 +35,7 @@ of-row-requires c κs =
     (omega (arith, rows-le (tileOf (e .before .before .args .tile))), e .row-bytes .ensures)
 
 span-meets-requires : tie.Need-span-meets-requires Inv-loop μ-loop
-span-meets-requires c κs = (c .before .before .before .before .before .before .pre .0, c .of-row .ensures .1)
+span-meets-requires c κs = (c .before .before .before .before .before .before .pre .0, c .of-row .ensures .1 .0)
 
 -- what the test says, of the rule's row
 found-in : (c : tie.After-span-meets Inv-loop μ-loop) → let l = c .before .before .before in

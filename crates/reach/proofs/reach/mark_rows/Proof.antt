@@ -36,7 +36,7 @@ of-row-requires c κs =
     (omega (arith, rows-le (tileOf (e .before .before .args .tile))), e .row-bytes .ensures)
 
 mark-span-requires : tie.Need-mark-span-requires Inv-loop μ-loop
-mark-span-requires c κs = (c .before .before .before .loop .inv .2, c .of-row .ensures .1)
+mark-span-requires c κs = (c .before .before .before .loop .inv .2, c .of-row .ensures .1 .0)
 
 add-y : tie.Need-add-y Inv-loop μ-loop
 add-y c = search needs

@@ -1,4 +1,4 @@
--- `reach::rejection::span_reason` goes from word to word. The loop's invariant: the words before word w have no reason. Assumes
+-- `reach::rows::span_reason` goes from word to word. The loop's invariant: the words before word w have no reason. Assumes
 -- nothing.
 use mathlib.Core.Path.{_≡_, sym, _∙_}
 use Prim.Native.Nat.{_-_, _≤_}
@@ -9,8 +9,8 @@ use Rattle.rules.specs.Reach.{firstReason}
 use Rattle.reach.specs.Span.{wordReached}
 use Rattle.reach.proofs.Joined.{none-yet, none-more, first-found, reason-search}
 use Rattle.reach.proofs.Spans.{reached-words}
-use Rattle.reach.proofs.rejection.span_reason.Statement.{statement}
-use Rattle.reach.proofs.rejection.span_reason.Tie as tie
+use Rattle.reach.proofs.rows.span_reason.Statement.{statement}
+use Rattle.reach.proofs.rows.span_reason.Tie as tie
 
 abbrev Inv-loop : tie.InvT-loop
 Inv-loop reasons span words w₀ w = (w ≤ words) × (firstReason reasons (concat (tab w (wordReached span))) ≡ 0)
