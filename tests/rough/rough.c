@@ -428,6 +428,15 @@ static void choose_load(void) {
     }
 }
 
+/* Mostly a pair that has a linear reading. */
+static void choose_linear_pair(void) {
+    if (one_in(8)) return;
+    do {
+        now.tile.fmt = up_to(4);
+        now.tile.siz = up_to(3);
+    } while (reads_each() == 0);
+}
+
 /* A reason that is taken, at the limits as often as not. */
 static void choose_reason(void) { now.reason = one_in(2) ? 1 + up_to(TK_REASON_MOST - 1) : one_in(2) ? 1 : TK_REASON_MOST; }
 
@@ -693,6 +702,7 @@ static void choose_call(void) {
     memset(now.numbers, 0, sizeof now.numbers);
     choose_tile();
     choose_load();
+    if (now.entry == DECODE_LINEAR) choose_linear_pair();
     choose_reason();
     choose_last();
     now.lane = up_to(3);
