@@ -244,6 +244,12 @@ fn each_condition_is_needed() {
     assert!(!as_asked(&half));
     // The mode.
     assert!(!as_asked(&Tile { mode: 2, ..i8 }));
+    // The pair (2,3), of which every second word is stored over the one before: not its bytes, two a texel, and not half of them, four.
+    let ci32 = Tile { fmt: 2, siz: 3, width: 3, height: 1, ..i8 };
+    let source: Vec<u8> = (1..=16).collect();
+    let mut bank = Bank::new();
+    bank.load_tile(&source, &ci32, 3, 1, row_words(&ci32), 16).expect("in range");
+    assert_eq!(bank.sample_tile(&ci32, 0), Tile { siz: 2, ..ci32 }.decode_linear(&source[8..], 16));
 }
 
 /// A decoding into a picture of so many bytes: its answer, and the picture.

@@ -60,8 +60,8 @@ pub struct Case {
     pub seed: u64,
 }
 
-/// How a load, or the decoding of a source, goes through it: so many pieces of so many bytes, each so far behind the one before. Sources are chosen by
-/// it; nothing is compared with it.
+/// How a load, or the decoding of a source, goes through it: so many pieces of so many bytes, each so far behind the one before. Sources
+/// are chosen by it; nothing is compared with it.
 #[derive(Clone, Copy)]
 pub struct Pieces {
     pub count: u32,

@@ -1,5 +1,5 @@
-//! Sources decoded without a bank: a plain model of document 02's item 11, the original's linear decoders as far as they go, and which tiles
-//! give the same picture by a load.
+//! Sources decoded without a bank: a plain model of document 02's item 11, the original's linear decoders as far as they go, and which
+//! tiles give the same picture by a load.
 use crate::case::{descriptor, Case};
 use original::calls;
 use tulonkasa::{Tile, SIDE_MOST};

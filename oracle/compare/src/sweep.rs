@@ -392,8 +392,8 @@ fn decodings(case: Case) -> impl Iterator<Item = Case> {
     lengths.into_iter().filter(|&length| length <= 65536).map(move |source_length| Case { source_length, ..case })
 }
 
-/// Every pair, those that are refused as well; even and odd sizes and the largest, strides and sources about what they need; and pictures that
-/// are one byte short, full and longer.
+/// Every pair, those that are refused as well; even and odd sizes and the largest, strides and sources about what they need; and pictures
+/// that are one byte short, full and longer.
 fn linear_sources(cases: &mut Vec<Case>) {
     for pair in 0..32 {
         for [width, height] in LINEAR {
@@ -410,7 +410,8 @@ fn linear_sources(cases: &mut Vec<Case>) {
     }
 }
 
-/// Tiles whose lines fit, in every pair: of no line, one, several and all; at the bank's start and up to its end; of widths up to the line's.
+/// Tiles whose lines fit, in every pair: of no line, one, several and all; at the bank's start and up to its end; of widths up to the
+/// line's.
 fn round_trips(cases: &mut Vec<Case>) {
     for (fmt, siz) in linear::PAIRS {
         let most = linear::lines_most(fmt, siz);
