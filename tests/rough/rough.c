@@ -428,9 +428,12 @@ static void choose_load(void) {
     }
 }
 
-/* Mostly a pair that has a linear reading. */
-static void choose_linear_pair(void) {
-    if (one_in(8)) return;
+/* Mostly a pair that has a linear reading. One that has none comes with a stride out of range as often as not. */
+static void choose_linear(void) {
+    if (one_in(8)) {
+        if (one_in(2)) now.numbers[2] = 65536 + up_to(9);
+        return;
+    }
     do {
         now.tile.fmt = up_to(4);
         now.tile.siz = up_to(3);
@@ -684,6 +687,7 @@ static void choose_lengths(void) {
         if (i == SOURCE) right = one_in(16) ? right : up_to(600);
         if (i == SOURCE && now.entry == REPLAY_RECORD) right = (size_t)now.length + (one_in(4) ? up_to(100) : 0);
         if (i == PICTURE) right = (size_t)(4 * count + (one_in(4) ? up_to(100) : 0));
+        if (i == PICTURE && now.entry == DECODE_LINEAR && one_in(8)) right = up_to((uint32_t)right);
         if (i == TRAIL) right = (size_t)(2 * each * count + (one_in(4) ? up_to(100) : 0));
         if (i == PAM) right = (size_t)(header + 4 * count + (one_in(4) ? up_to(100) : 0));
         if (i == TO_SPLIT) right = (size_t)(now.count <= TK_ENTRIES_MOST ? now.count : up_to(12)) * TK_ENTRY_BYTES;
@@ -702,7 +706,7 @@ static void choose_call(void) {
     memset(now.numbers, 0, sizeof now.numbers);
     choose_tile();
     choose_load();
-    if (now.entry == DECODE_LINEAR) choose_linear_pair();
+    if (now.entry == DECODE_LINEAR) choose_linear();
     choose_reason();
     choose_last();
     now.lane = up_to(3);
