@@ -89,6 +89,9 @@ impl Random {
         if call == Call::RoundTrip {
             case.tile = self.fitting_tile(case.tile.palette);
         }
+        if call == Call::Linear && self.to(7) != 0 {
+            (case.tile.fmt, case.tile.siz) = self.pick(&linear::PAIRS);
+        }
         case.lane = self.to(3);
         case.image_siz = self.to(3);
         case.surplus = self.pick(&[0, 0, 0, 1, 2, 7, 64, -1, -2]);
