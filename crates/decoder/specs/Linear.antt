@@ -11,6 +11,10 @@ use Rattle.rules.specs.Picture.{formatReads}
 use Rattle.rules.specs.Linear.{linearTexel}
 use Rattle.decoder.specs.Steps.{formatAt}
 
+-- the byte of its row that texel x stands in, of a format of one byte or half of one; places of size 0 are those of four bits
+abbrev pub byteOf : ℕ → ℕ → ℕ
+byteOf place x = cond (eqb (place % 4) 0) (x / 2) x
+
 -- the bytes that n texels of the format at a place take in a row: two of four bits share one
 abbrev pub linearBytes : ℕ → ℕ → ℕ
 linearBytes place n = cond (eqb (place % 4) 0) ((n + 1) / 2) (formatReads (formatAt place) * n)

@@ -46,20 +46,11 @@ fn linear_refusal(source: &[u8], tile: TileDescriptor, stride: u32, out: &[u8]) 
     let texels = tile.width as usize * tile.height as usize;
     let short = refuse(refusal::BUFFER, out.len() < 4 * texels, 0);
     let no = refuse(refusal::PAIR, !is_linear(tile), short);
-    refuse(
-        refusal::LOAD,
-        (65536 < source.len()) | (65535 < stride),
-        no,
-    )
+    refuse(refusal::LOAD, (65536 < source.len()) | (65535 < stride), no)
 }
 
 // The picture, and the count of its reads, or the refusal with the picture as it was lent.
-pub fn decode_linear(
-    source: &[u8],
-    tile: TileDescriptor,
-    stride: u32,
-    picture: &mut [u8],
-) -> Answer
+pub fn decode_linear(source: &[u8], tile: TileDescriptor, stride: u32, picture: &mut [u8]) -> Answer
     ensures { λ r. ⌜ answered r (now (picture .exit) ∷ [])
         ≡ linearCall (now (source .entry)) (tileOf tile) stride (now (picture .entry)) ⌝ }
 {

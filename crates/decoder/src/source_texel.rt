@@ -1,14 +1,14 @@
 // A texel of a row of a source.
 ghost use mathlib.Core.Path.{_≡_};
 ghost use mathlib.Core.Bool.{true};
-ghost use Prim.Native.Nat.{_+_, _<_};
+ghost use Prim.Native.Nat.{_+_, _<_, _≤_};
 ghost use lib.ListN.{length, getD};
 ghost use Rattle.rules.specs.Reading.{given};
 ghost use Rattle.rules.specs.Texdec.{ia8Texel};
 ghost use Rattle.rules.specs.Linear.{linearTexel};
 ghost use Rattle.rules.specs.Picture.{formatReads};
 ghost use Rattle.decoder.specs.Steps.{formatAt};
-ghost use Rattle.decoder.specs.Linear.{SourceRow};
+ghost use Rattle.decoder.specs.Linear.{byteOf, SourceRow};
 use crate::direct::ci4_texel;
 use crate::format::CI4;
 use crate::format::I4;
@@ -29,7 +29,11 @@ fn source_byte(source: &[u8], whole: bool, at: usize) -> u8
     requires { ⌜ (whole ≡ true → at < length (now source)) ⌝ }
     ensures { λ r. ⌜ r ≡ getD (now (source .entry)) at 0 ⌝ }
 {
-    if whole { source[at] } else { byte_at(source, at) }
+    if whole {
+        source[at]
+    } else {
+        byte_at(source, at)
+    }
 }
 
 // The IA8 texel of a byte: its nibbles are those of two I4 texels.
@@ -39,6 +43,14 @@ fn ia8_texel(byte: u8) -> [u8; 4]
     let i = decode_i4(0, byte);
     let a = decode_i4(1, byte);
     [i[0], i[0], i[0], a[0]]
+}
+
+// The byte of its row that a texel of one byte stands in: two of four bits share one.
+fn byte_of(place: u32, x: usize) -> usize
+    ensures { λ r. ⌜ r ≡ byteOf place x ⌝ }
+    ensures { λ r. ⌜ r ≤ x ⌝ }
+{
+    if place % 4 == 0 { x / 2 } else { x }
 }
 
 // A texel of one byte, or of half of one.
@@ -54,8 +66,7 @@ fn source_byte_texel(
     requires { ⌜ SourceRow (now source) whole place palette start (x + 1) ⌝ }
     ensures { λ r. ⌜ r ≡ given (linearTexel (formatAt place) palette start x) (now (source .entry)) ⌝ }
 {
-    let at = if place % 4 == 0 { x / 2 } else { x };
-    let byte = source_byte(source, whole, start + at);
+    let byte = source_byte(source, whole, start + byte_of(place, x));
     match place {
         CI4 => ci4_texel(palette, x, byte),
         IA4 => decode_ia4(x, byte),
