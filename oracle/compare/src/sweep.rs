@@ -392,8 +392,8 @@ fn decodings(case: Case) -> impl Iterator<Item = Case> {
     lengths.into_iter().filter(|&length| length <= 65536).map(move |source_length| Case { source_length, ..case })
 }
 
-/// Every pair, those that are refused as well, in fewer sizes; even and odd sizes and the largest, strides and sources about what they need; and pictures
-/// that are one byte short, full and longer.
+/// Every pair, those that are refused as well, in fewer sizes; even and odd sizes and the largest, strides and sources about what they
+/// need; and pictures that are one byte short, full and longer.
 fn linear_sources(cases: &mut Vec<Case>) {
     for pair in 0..32 {
         let sizes = if linear::PAIRS.contains(&(pair / 4, pair % 4)) { LINEAR.len() } else { 5 };
