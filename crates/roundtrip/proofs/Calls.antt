@@ -1,14 +1,17 @@
 -- "What goes in comes out", by the calls: a tile load and then a plain picture leave what the linear decoding of the source leaves.
 use mathlib.Core.Path.{_≡_, refl, ap, sym, _∙_}
-use mathlib.Core.Bool.{true, false}
+use mathlib.Core.Bool.{Bool, true, false, cond, _&&_, true≢false}
 use mathlib.Core.List.{List, [], _∷_}
-use Prim.Native.Nat.{ℕ, _*_, _<_, _≤_}
+use Prim.Native.Nat.{ℕ, zero, suc, _+_, _*_, _<_, _≤_}
+use native.Mathlib.Nat.{mul-le-mul-right}
 use native.Mathlib.Omega.{arith}
+use lib.Dec.{eqb, ltb}
 use lib.ListN.{length}
 use borrow.Author.Tests.{eq-eqb, le-ltb, lt-leb}
 use Rattle.rules.specs.Base.{over}
 use Rattle.rules.specs.Tile.{Tile, InRange, sideLimit, writtenSize, reasonsSize, loadTileFrom, linearTileFrom}
 use Rattle.rules.specs.Texdec.{accepted}
+use Rattle.rules.specs.Sampling.{isRgba32}
 use Rattle.rules.specs.Reading.{given, trail}
 use Rattle.rules.specs.Load.{Store, Reason, reasonOutside, loadTile, stored, following, madeUp, tileStores}
 use Rattle.rules.specs.Picture.{plain}
@@ -20,8 +23,28 @@ use Rattle.rules.proofs.Formats.{accepted-direct}
 use Rattle.rules.proofs.Loads.{length-stored}
 use Rattle.rules.proofs.Ranges.{both}
 use Rattle.rules.proofs.Refused.{done-is, done-or-is}
-use Rattle.roundtrip.specs.Fits.{rowWords, Fits}
-use Rattle.roundtrip.proofs.RoundTrip.{round-trip, reads-same}
+use Rattle.roundtrip.specs.Fits.{wordsFor, rowWords, lineTexels, linesIn, Fits}
+use Rattle.roundtrip.proofs.RoundTrip.{facts, round-trip, reads-same}
+
+-- The load takes at most 512 words a row. Where there is a row they are no more: only those of (0,3) can be more than the line's.
+few : (fmt siz line tmem height width : ℕ) → cond (isRgba32 fmt siz) true (ltb siz 3) ≡ true → siz ≤ 3 → line ≤ 511 → 0 < height
+    → width ≤ lineTexels siz * line → tmem + height * line ≤ linesIn fmt siz → wordsFor siz width ≤ 512
+few fmt zero line tmem height width k s l h w i = omega arith
+few fmt (suc zero) line tmem height width k s l h w i = omega arith
+few fmt (suc (suc zero)) line tmem height width k s l h w i = omega arith
+few fmt (suc (suc (suc zero))) line tmem height width k s l h w i = go (eqb fmt 0) k i
+  where
+    one : 1 * line ≤ height * line
+    one = mul-le-mul-right line h
+
+    go : (b : Bool) → cond (b && true) true false ≡ true → tmem + height * line ≤ cond (b && true) 256 512 → wordsFor 3 width ≤ 512
+    go true k′ i′ = omega (arith, one)
+    go false k′ i′ = absurd (true≢false (sym k′))
+few fmt (suc (suc (suc (suc n)))) line tmem height width k s l h w i = absurd (omega arith)
+
+pub words-few : (t : Tile) → Fits t → t .siz ≤ 3 → t .line ≤ 511 → 0 < t .height → rowWords t ≤ 512
+words-few t fits s l h =
+    few (t .fmt) (t .siz) (t .line) (t .tmem-addr) (t .height) (t .width) (facts t fits .sizes) s l h (fits .row-fits) (fits .lines-inside)
 
 -- what the calls ask of their numbers and buffers
 pub record Taken (t : Tile) (mode lane stride : ℕ) (why : Reason) (last : ℕ) (src bank map reasons out : List ℕ) : Type 0 where
@@ -129,8 +152,8 @@ module _ (t : Tile) (mode lane stride : ℕ) (why : Reason) (last : ℕ) (src ba
       }
   unfolding pictureCall
   picture-gives =
-      ap
-      (λ l. call (pictureTests left t mode lane (plainTexels t) out) (length (trail (plain t mode lane) left) ∷ []) (over l out ∷ []) (out ∷ []))
+      let reads : List ℕ = length (trail (plain t mode lane) left) ∷ [] in
+      ap (λ l. call (pictureTests left t mode lane (plainTexels t) out) reads (over l out ∷ []) (out ∷ []))
       (round-trip t mode lane stride src bank fits (c .direct-mode) (c .whole-bank))
       ∙ sym (done-is _ _ _ _ picture-taken)
 

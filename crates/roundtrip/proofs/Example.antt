@@ -30,7 +30,8 @@ small = tile 4 1 1 0 4 2
 
 computed : given (plain small 0 0) (stored (1 ∷ 2 ∷ 3 ∷ 4 ∷ 5 ∷ []) (tileStores (loadTile small) 1 2 (rowWords small) 3) (replicate 4096 9))
     ≡ 1 ∷ 1 ∷ 1 ∷ 1 ∷ 2 ∷ 2 ∷ 2 ∷ 2 ∷ 3 ∷ 3 ∷ 3 ∷ 3 ∷ 4 ∷ 4 ∷ 4 ∷ 4 ∷ 4 ∷ 4 ∷ 4 ∷ 4 ∷ 5 ∷ 5 ∷ 5 ∷ 5 ∷ 0 ∷ 0 ∷ 0 ∷ 0 ∷ 0 ∷ 0 ∷ 0 ∷ 0 ∷ []
-unfolding given andThen prepend upTo plain plainRow texel direct formatOf stored tileStores tileRow wordStores wholeStores splitStores list4 tab tabFrom concat
+unfolding given andThen prepend upTo plain plainRow texel direct formatOf stored tileStores tileRow wordStores wholeStores splitStores list4
+    tab tabFrom concat
 computed = refl
 
 computed-linear : given (linear small 3) (1 ∷ 2 ∷ 3 ∷ 4 ∷ 5 ∷ [])

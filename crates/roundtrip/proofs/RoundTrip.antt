@@ -41,7 +41,9 @@ unfolding formatOf
 pair-facts fmt siz a n =
     record {
       knows = direct-known fmt siz a;
-      siz-is = eqb-true _ _ (or-left _ _ (of-direct (λ fmt siz. eqb siz (formatSiz (formatOf fmt siz)) || (eqb fmt 2 && eqb siz 3)) refl fmt siz a) n);
+      siz-is =
+          eqb-true _ _
+          (or-left _ _ (of-direct (λ fmt siz. eqb siz (formatSiz (formatOf fmt siz)) || (eqb fmt 2 && eqb siz 3)) refl fmt siz a) n);
       rgba = not-true _ (of-direct (λ fmt siz. not (eqb fmt 1)) refl fmt siz a);
       sizes = or-left _ _ (of-direct (λ fmt siz. cond (isRgba32 fmt siz) true (ltb siz 3) || (eqb fmt 2 && eqb siz 3)) refl fmt siz a) n;
     }
@@ -91,17 +93,18 @@ read-half b x y e a h k =
     let r : (2 * x + e) % 8 ≡ 2 * (x % 4) + e = omega arith in
     k ∙ rw (w, r)
 
-module _ (t : Tile) (mode lane stride : ℕ) (src bank : List ℕ) (fits : Fits t) (direct-mode : mode < 2) (whole-bank : length bank ≡ 4096) where
+pub facts : (t : Tile) → Fits t → PairFacts (t .fmt) (t .siz)
+facts t fits =
+    let p = both (accepted 0 (t .fmt) (t .siz)) _ (fits .pair) in
+    pair-facts (t .fmt) (t .siz) (accepted-direct 0 (t .fmt) (t .siz) (omega arith) (p .0)) (not-true _ (p .1))
+
+module _ (t : Tile) (mode lane stride : ℕ) (src bank : List ℕ) (fits : Fits t) (direct-mode : mode < 2)
+    (whole-bank : length bank ≡ 4096) where
   abbrev pub after : List ℕ
   after = stored src (tileStores (loadTile t) (t .siz) (t .height) (rowWords t) stride) bank
 
-  pub facts : PairFacts (t .fmt) (t .siz)
-  facts =
-      let p = both (accepted 0 (t .fmt) (t .siz)) _ (fits .pair) in
-      pair-facts (t .fmt) (t .siz) (accepted-direct 0 (t .fmt) (t .siz) (omega arith) (p .0)) (not-true _ (p .1))
-
   column-is : (x : ℕ) → column t mode x ≡ sizColumn (t .siz) x
-  column-is x = rw (facts .rgba)
+  column-is x = rw (facts t fits .rgba)
 
   module _ (y x : ℕ) (y-in : y < t .height) (x-in : x < t .width) where
     abbrev f : Format
@@ -111,19 +114,23 @@ module _ (t : Tile) (mode lane stride : ℕ) (src bank : List ℕ) (fits : Fits 
         → given (direct f (8 * t .tmem-addr) (t .palette) (odd y) (rowStart t y + sizColumn (t .siz) x) x) after
         ≡ given (linearTexel f (t .palette) (y * stride) x) src
     whole-trip n =
-        ap (λ s. given (direct f (8 * t .tmem-addr) (t .palette) (odd y) (rowStart t y + sizColumn s x) x) after) (facts .siz-is)
-        ∙ texel-whole after src (8 * t .tmem-addr) (rowStart t y) (y * stride) (odd y) (t .palette) (t .width) x x-in (8 * rowWords t) bytes f (facts .knows) (rw (facts .siz-is) at small) (ap (λ s. 8 * wordsFor s (t .width)) (facts .siz-is))
+        ap (λ s. given (direct f (8 * t .tmem-addr) (t .palette) (odd y) (rowStart t y + sizColumn s x) x) after) (facts t fits .siz-is)
+        ∙ texel-whole after src (8 * t .tmem-addr) (rowStart t y) (y * stride) (odd y) (t .palette) (t .width) x x-in (8 * rowWords t)
+        bytes f (facts t fits .knows) (rw (facts t fits .siz-is) at small) (ap (λ s. 8 * wordsFor s (t .width)) (facts t fits .siz-is))
       where
         small : t .siz < 3
-        small = ltb-true (t .siz) 3 (rw n at (facts .sizes))
+        small = ltb-true (t .siz) 3 (rw n at (facts t fits .sizes))
 
         c : WholeLoad (imageTile (t .siz) (loadTile t)) (t .siz) (t .height) (rowWords t)
-        c = whole-load (t .fmt) (t .siz) (t .line) (t .tmem-addr) (t .height) (t .width) small (facts .rgba) n (fits .row-fits) (rw n at (fits .lines-inside))
+        c =
+            whole-load (t .fmt) (t .siz) (t .line) (t .tmem-addr) (t .height) (t .width) small (facts t fits .rgba) n
+            (fits .row-fits) (rw n at (fits .lines-inside))
 
         bytes : (r s q : ℕ) → q < 8 * rowWords t → r ≡ rowStart t y + q → s ≡ y * stride + q
             → getD after (address 4096 (8 * t .tmem-addr) (odd y) r) 0 ≡ getD src s 0
         bytes r s q q-in e e′ =
-            let in-bank : t .tmem-addr + t .line * y + q / 8 < 512 = word-within src (loadTile t) (t .siz) (t .height) (rowWords t) stride c y (q / 8) y-in (omega arith) in
+            let in-bank : t .tmem-addr + t .line * y + q / 8 < 512 =
+            word-within src (loadTile t) (t .siz) (t .height) (rowWords t) stride c y (q / 8) y-in (omega arith) in
             rw (read-at 4096 (t .tmem-addr) (t .line) y q r (omega (arith, fits .height-in)) e (omega arith), e′)
             (whole-byte src (loadTile t) (t .siz) (t .height) (rowWords t) stride c y q y-in q-in .holds bank whole-bank)
 
@@ -149,7 +156,8 @@ module _ (t : Tile) (mode lane stride : ℕ) (src bank : List ℕ) (fits : Fits 
             → getD (stored src (tileStores u 3 (t .height) (wordsFor 3 (t .width)) stride) bank) a 0 ≡ getD src s 0
         bytes a r s e z h k er ea es =
             let x-half : x / 2 < wordsFor 3 (t .width) = omega arith in
-            let in-half : t .tmem-addr + t .line * y + x / 2 / 2 < 256 = half-within src u 3 (t .height) (wordsFor 3 (t .width)) stride c y (x / 2) y-in x-half in
+            let in-half : t .tmem-addr + t .line * y + x / 2 / 2 < 256 =
+            half-within src u 3 (t .height) (wordsFor 3 (t .width)) stride c y (x / 2) y-in x-half in
             let read = read-at 2048 (t .tmem-addr) (t .line) y (2 * x + e) r (omega (arith, fits .height-in)) (omega arith) (omega arith) in
             let at : a ≡ splitOf u y x e z = ea ∙ ap (λ n. n + 2048 * z) (read-half (t .tmem-addr + t .line * y) x y e _ h read) in
             rw (at, es) (split-byte src u 3 (t .height) (wordsFor 3 (t .width)) stride c y x e z y-in x-half h k .holds bank whole-bank)
@@ -196,4 +204,5 @@ module _ (t : Tile) (mode lane stride : ℕ) (src bank : List ℕ) (fits : Fits 
       four : (y x : ℕ) → length (given (texel t mode lane (odd y) (rowStart t y + column t mode x) x) after) ≡ 4
       four y x =
           ap (λ r. length (given r after)) (texel-direct t mode lane (odd y) (rowStart t y + column t mode x) x direct-mode)
-          ∙ direct-four (formatOf (t .fmt) (t .siz)) (8 * t .tmem-addr) (t .palette) (odd y) (rowStart t y + column t mode x) x after (facts .knows)
+          ∙ direct-four (formatOf (t .fmt) (t .siz)) (8 * t .tmem-addr) (t .palette) (odd y) (rowStart t y + column t mode x) x after
+          (facts t fits .knows)

@@ -14,6 +14,7 @@ use Rattle.rules.specs.Base.{odd}
 use Rattle.rules.specs.Load.{Store, store, LoadTile, list4, upper, wholeStores, splitStores, splitAt, lowBytes, highBytes}
 use Rattle.rules.specs.Picture.{swapOdd}
 use Rattle.rules.proofs.Computed.{agree-below}
+use Rattle.tmem.specs.Part.{Spots}
 use Rattle.tmem.proofs.Indices.{late, place-held}
 use Rattle.roundtrip.proofs.Last.{Sets, Keeps, keeps-none, keeps-one, sets-here, sets-later, keeps-table, sets-table}
 
@@ -64,7 +65,9 @@ pub place-at : (v row k : ℕ) → v < 512 → k < 4 → getD (list4 (4 * v) (ro
 place-at v row k h m =
     let z : 4 * v % 4 ≡ 0 = omega arith in
     let l : late (4 * v) (row % 2 * 2) k ≡ 0 = rw z (mul-zero (boolByte (eqb k (row % 2 * 2)))) in
-    sym (place-held (4 * v) (row % 2 * 2) k (record { first-in = omega arith; first-low = omega arith; odd-in = omega arith; odd-even = omega arith }) m)
+    let spots : Spots (4 * v) (row % 2 * 2) =
+    record { first-in = omega arith; first-low = omega arith; odd-in = omega arith; odd-even = omega arith } in
+    sym (place-held (4 * v) (row % 2 * 2) k spots m)
     ∙ ap (λ n. 2 * ((4 * v / 4 * 4 + k + 4 * n) % 2048 % 1024)) l
     ∙ in-word v k h m
 
