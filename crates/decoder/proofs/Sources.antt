@@ -98,7 +98,8 @@ module _ {source : List ℕ} {whole : Bool} {place palette start : ℕ} (x : ℕ
       go true h = omega arith
       go false h = let h′ = rw e at h in omega (arith, h′)
 
-  pub wide-there : (g k at : ℕ) → formatReads (formatAt place) ≡ g → 2 ≤ g → k < g → at ≡ start + g * x + k → whole ≡ true → at < length source
+  pub wide-there : (g k at : ℕ) → formatReads (formatAt place) ≡ g → 2 ≤ g → k < g → at ≡ start + g * x + k → whole ≡ true
+      → at < length source
   wide-there g k at e two h p w =
       let q = rw (wide-place place (rw e two), e) at (r .there w) in
       omega (arith, q, mul-suc g x, p, h)
@@ -107,7 +108,9 @@ module _ {source : List ℕ} {whole : Bool} {place palette start : ℕ} (x : ℕ
 module _ (place palette : ℕ) (src : List ℕ) (knows : known (formatAt place) ≡ true) (n : ℕ) where
   pub row-parts : (start : ℕ)
       → Parts n (λ i. given (linearTexel (formatAt place) palette start i) src) (λ i. given (linearPart place palette start i) src) 4
-  row-parts start = given-parts (linearTexel (formatAt place) palette start) src n 4 (λ i. linear-four palette start i src (formatAt place) knows)
+  row-parts start =
+      given-parts (linearTexel (formatAt place) palette start) src n 4
+      (λ i. linear-four palette start i src (formatAt place) knows)
 
 module _ (place palette stride width : ℕ) (src : List ℕ) where
   pub rows-parts : known (formatAt place) ≡ true → (n : ℕ)

@@ -52,7 +52,14 @@ returns-2 : tie.Need-returns-2
 unfolding first
 returns-2 c =
     let f = c .before .before .before .before .before .before in
-    rw (← f .before .fields-outside .ensures, f .if1 .left, c .refuse3 .ensures, c .before .refuse2 .ensures, c .before .before .is-linear .ensures, c .before .before .before .refuse .ensures)
+    rw (
+      ← f .before .fields-outside .ensures,
+      f .if1 .left,
+      c .refuse3 .ensures,
+      c .before .refuse2 .ensures,
+      c .before .before .is-linear .ensures,
+      c .before .before .before .refuse .ensures,
+    )
 
 pub linear-refusal-spec : {M : Type 1} → statement M
 linear-refusal-spec =

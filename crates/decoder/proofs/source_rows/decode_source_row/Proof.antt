@@ -1,4 +1,5 @@
--- `decoder::source_rows::decode_source_row` writes one texel after the other, each through the part that starts where the ones before it end.
+-- `decoder::source_rows::decode_source_row` writes one texel after the other, each through the part that starts where the ones before it
+-- end.
 use Rattle.decoder.proofs.Sources.{put-linear, shorter, row-parts}
 use Rattle.rules.proofs.Parts.{begins, again, room}
 use Rattle.decoder.specs.Linear.{linearPart}
@@ -60,8 +61,10 @@ loop-again c =
     let a = start s .args in
     let p = start s .pre in
     let texel = c .before .before .before .before .source-texel .ensures in
-    let put = rw (put-linear (a .palette) (a .start) (s .loop .x) (a .source .now) (a .place) _ (p .0 .knows) texel) at (c .before .before .put-channels .ensures) in
-    let o = again (row-parts (a .place) (a .palette) (a .source .now) (p .0 .knows) (a .width) (a .start)) (s .loop .x) _ _ _ (omega arith) (p .1) (s .loop .inv .1) put in
+    let given = put-linear (a .palette) (a .start) (s .loop .x) (a .source .now) (a .place) _ (p .0 .knows) texel in
+    let put = rw given at (c .before .before .put-channels .ensures) in
+    let row = row-parts (a .place) (a .palette) (a .source .now) (p .0 .knows) (a .width) (a .start) in
+    let o = again row (s .loop .x) _ _ _ (omega arith) (p .1) (s .loop .inv .1) put in
     (omega arith, o .0, o .1)
 
 same-length : tie.Need-same-length Inv-loop μ-loop

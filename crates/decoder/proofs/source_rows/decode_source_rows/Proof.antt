@@ -1,4 +1,5 @@
--- `decoder::source_rows::decode_source_rows` writes one row after the other, each through the part that starts where the ones before it end.
+-- `decoder::source_rows::decode_source_rows` writes one row after the other, each through the part that starts where the ones before it
+-- end.
 use Rattle.decoder.proofs.Sources.{rows-parts}
 use Rattle.rules.proofs.Parts.{begins, again, room, part-ends}
 use Rattle.decoder.specs.Linear.{SourceRow, linearRows}
@@ -85,7 +86,8 @@ loop-again c =
     let a = start s .args in
     let p = start s .pre in
     let rows = rows-parts (a .place) (a .palette) (a .stride) (a .width) (a .source .now) (p .0) (a .rows) in
-    let o = again rows (s .loop .y) _ _ _ (omega arith) (p .1 .1 .1 .1 .1) (s .loop .inv .1) (c .before .before .paint-source-row .ensures) in
+    let row = c .before .before .paint-source-row .ensures in
+    let o = again rows (s .loop .y) _ _ _ (omega arith) (p .1 .1 .1 .1 .1) (s .loop .inv .1) row in
     (omega arith, o .0, o .1)
 
 same-length : tie.Need-same-length Inv-loop μ-loop

@@ -57,7 +57,11 @@ returns-5 c =
     let b = c .before in
     let s = b .before .before .before in
     let n = c .match .rest in
-    rw (byte-else _ _ _ _ _ (s .pre .0) (n .0 .0 .0 .1) (n .0 .0 .1) (n .0 .1) (n .1), b .source-byte .ensures, b .before .byte-of .ensures .0)
+    rw (
+      byte-else _ _ _ _ _ (s .pre .0) (n .0 .0 .0 .1) (n .0 .0 .1) (n .0 .1) (n .1),
+      b .source-byte .ensures,
+      b .before .byte-of .ensures .0,
+    )
 
 pub source-byte-texel-spec : {M : Type 1} → statement M
 source-byte-texel-spec =

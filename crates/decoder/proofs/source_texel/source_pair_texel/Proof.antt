@@ -15,13 +15,17 @@ add-at : tie.Need-add-at
 add-at c = let s = c .before in omega (arith, s .pre .1 .near)
 
 source-byte-requires : tie.Need-source-byte-requires
-source-byte-requires c κs = let s = c .before in wide-there (s .args .x) (s .pre .1) 2 0 _ (s .pre .0) (omega arith) (omega arith) (omega arith)
+source-byte-requires c κs =
+    let s = c .before in
+    wide-there (s .args .x) (s .pre .1) 2 0 _ (s .pre .0) (omega arith) (omega arith) (omega arith)
 
 add-source-byte : tie.Need-add-source-byte
 add-source-byte c = let s = c .before .before in omega (arith, s .pre .1 .near)
 
 source-byte-requires-2 : tie.Need-source-byte-requires-2
-source-byte-requires-2 c κs = let s = c .before .before in wide-there (s .args .x) (s .pre .1) 2 1 _ (s .pre .0) (omega arith) (omega arith) (omega arith)
+source-byte-requires-2 c κs =
+    let s = c .before .before in
+    wide-there (s .args .x) (s .pre .1) 2 1 _ (s .pre .0) (omega arith) (omega arith) (omega arith)
 
 entry-of-requires : tie.Need-entry-of-requires
 entry-of-requires c κs = search needs

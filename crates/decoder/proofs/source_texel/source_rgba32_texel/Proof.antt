@@ -15,25 +15,33 @@ add-at : tie.Need-add-at
 add-at c = let s = c .before in omega (arith, s .pre .1 .near)
 
 source-byte-requires : tie.Need-source-byte-requires
-source-byte-requires c κs = let s = c .before in wide-there (s .args .x) (s .pre .1) 4 0 _ (s .pre .0) (omega arith) (omega arith) (omega arith)
+source-byte-requires c κs =
+    let s = c .before in
+    wide-there (s .args .x) (s .pre .1) 4 0 _ (s .pre .0) (omega arith) (omega arith) (omega arith)
 
 add-source-byte : tie.Need-add-source-byte
 add-source-byte c = let s = c .before .before in omega (arith, s .pre .1 .near)
 
 source-byte-requires-2 : tie.Need-source-byte-requires-2
-source-byte-requires-2 c κs = let s = c .before .before in wide-there (s .args .x) (s .pre .1) 4 1 _ (s .pre .0) (omega arith) (omega arith) (omega arith)
+source-byte-requires-2 c κs =
+    let s = c .before .before in
+    wide-there (s .args .x) (s .pre .1) 4 1 _ (s .pre .0) (omega arith) (omega arith) (omega arith)
 
 add-source-byte-2 : tie.Need-add-source-byte-2
 add-source-byte-2 c = let s = c .before .before .before in omega (arith, s .pre .1 .near)
 
 source-byte-requires-3 : tie.Need-source-byte-requires-3
-source-byte-requires-3 c κs = let s = c .before .before .before in wide-there (s .args .x) (s .pre .1) 4 2 _ (s .pre .0) (omega arith) (omega arith) (omega arith)
+source-byte-requires-3 c κs =
+    let s = c .before .before .before in
+    wide-there (s .args .x) (s .pre .1) 4 2 _ (s .pre .0) (omega arith) (omega arith) (omega arith)
 
 add-source-byte-3 : tie.Need-add-source-byte-3
 add-source-byte-3 c = let s = c .before .before .before .before in omega (arith, s .pre .1 .near)
 
 source-byte-requires-4 : tie.Need-source-byte-requires-4
-source-byte-requires-4 c κs = let s = c .before .before .before .before in wide-there (s .args .x) (s .pre .1) 4 3 _ (s .pre .0) (omega arith) (omega arith) (omega arith)
+source-byte-requires-4 c κs =
+    let s = c .before .before .before .before in
+    wide-there (s .args .x) (s .pre .1) 4 3 _ (s .pre .0) (omega arith) (omega arith) (omega arith)
 
 returns : tie.Need-returns
 unfolding linearTexel given
