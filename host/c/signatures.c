@@ -365,6 +365,9 @@ static void check_linear_answers(void) {
     static const uint8_t rgba16[] = {16, 66, 214, 0, 156, 82, 247, 0}, ia16[] = {18, 18, 18, 52, 154, 154, 154, 188};
     static const uint8_t ci4[] = {81, 81, 81, 81, 82, 82, 82, 82, 83, 83, 83, 83,
                                   89, 89, 89, 89, 90, 90, 90, 90, 91, 91, 91, 91};
+    static const uint8_t ia4[] = {0, 0, 0, 255, 36, 36, 36, 0, 146, 146, 146, 255, 182, 182, 182, 0};
+    static const uint8_t i4[] = {17, 17, 17, 17, 34, 34, 34, 34, 153, 153, 153, 153, 170, 170, 170, 170};
+    static const uint8_t ia8[] = {17, 17, 17, 34, 153, 153, 153, 170};
     static const uint8_t ci16[] = {18, 52, 18, 52, 86, 120, 86, 120, 154, 188, 154, 188, 0, 0, 0, 0};
     memset(source, 7, sizeof source);
     memcpy(source, "\x12\x34\x56\x78", 4);
@@ -374,7 +377,10 @@ static void check_linear_answers(void) {
     CHECK(decoded(2, 0, 14, 6, ci4, sizeof ci4));
     CHECK(decoded(2, 1, 14, 4, ci8, sizeof ci8));
     CHECK(decoded(2, 2, 14, 8, ci16, sizeof ci16));
+    CHECK(decoded(3, 0, 14, 4, ia4, sizeof ia4));
+    CHECK(decoded(3, 1, 14, 2, ia8, sizeof ia8));
     CHECK(decoded(3, 2, 14, 4, ia16, sizeof ia16));
+    CHECK(decoded(4, 0, 14, 4, i4, sizeof i4));
     CHECK(decoded(4, 1, 14, 4, ci8, sizeof ci8)); /* the intensity in all channels, as the index */
     tk_answer answer = tk_decode_linear(source, 14, 2, 3, 5, 1, 2, 12, picture, sizeof picture);
     CHECK(answer.refusal == 5 && answer.count == 0 && picture[0] == 18 && picture[16] == 9);
