@@ -45,6 +45,7 @@ fn main() -> ExitCode {
     bench.pictures();
     bench.sizes();
     bench.lookups();
+    bench.linear();
     bench.loads();
     bench.others();
     bench.files();
@@ -218,6 +219,45 @@ impl Bench {
                 .expect("accepted");
             },
         )
+    }
+
+    /// Rows one behind the other, and of 4-bit texels of an even width, since the original takes no others.
+    fn linear(&mut self) {
+        println!("\nSources decoded without a bank, nanoseconds a picture. Of (0,3), which the original does not have, beside a copy.\n");
+        println!("| texels | pair | source | Rust | archive | ratio |");
+        println!("|---|---|---|---|---|---|");
+        let pairs = DIRECT.into_iter().filter(|&pair| pair != (2, 3));
+        let whole = pairs.map(|pair| (pair, 64, "whole"));
+        let some = [(0, 2), (2, 0), (3, 1), (4, 1)];
+        let sizes = [1, 8, 16, 128].into_iter().flat_map(|side| some.map(|pair| (pair, side, "whole")));
+        let cut = some[1..].iter().map(|&pair| (pair, 64, "half"));
+        for (pair, side, source) in whole.chain(sizes).chain(cut) {
+            self.linear_row(pair, side, source);
+        }
+    }
+
+    fn linear_row(&mut self, (fmt, siz): (u32, u32), side: u32, of_source: &str) {
+        let tile = Tile { width: side, height: side, ..square(fmt, siz, 0) };
+        let old = descriptor(&tile);
+        let stride = (side << siz).div_ceil(2);
+        let whole = bytes((side * stride) as usize);
+        let source = &whole[..if of_source == "half" { whole.len() / 2 } else { whole.len() }];
+        let plain =
+            |source: &[u8]| if siz == 3 { source.to_vec() } else { calls::linear(source, &old).expect("a decoder") };
+        let (rounds, picture) = (self.rounds, &mut self.picture);
+        slices::decode_linear(source, &tile, stride, picture).expect("in range");
+        assert_eq!(picture[..4 * (side * side) as usize], plain(source)[..]);
+        let pair = race(
+            rounds,
+            || used(plain(black_box(source))),
+            || {
+                let picture = black_box(&mut picture[..]);
+                black_box(slices::decode_linear(black_box(source), black_box(&tile), stride, picture)).expect("in range");
+            },
+        );
+        let name = format!("linear, {side} by {side}, ({fmt},{siz}), {of_source} source");
+        let cells = if siz == 3 { cells(pair) } else { self.judge(name, pair, GOAL) };
+        println!("| {side} by {side} | ({fmt},{siz}) | {of_source} | {cells} |");
     }
 
     fn loads(&mut self) {

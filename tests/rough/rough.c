@@ -6,8 +6,8 @@
  * Each buffer lies against a page that cannot be touched, at its end or at its start, so that the archive cannot reach
  * outside it unseen. After each call its refusal, its counts and a load's number are held against what documents 01 and 02 say,
  * worked out here on their own, its other answers against 0 where it refused, and every byte that must not have changed against a
- * copy. Of a file with changed bytes only the numbers that reading can refuse are known. 9 is given by no call; in the end it fails if
- * another refusal never came up. */
+ * copy; so are the texels that a source is decoded to. Of a file with changed bytes only the numbers that reading can refuse are known.
+ * 9 is given by no call; in the end it fails if another refusal never came up, or one of decoding a source. */
 
 #include <stdbool.h>
 #include <stdio.h>
@@ -131,6 +131,7 @@ enum {
     WRITE_PAM,
     READ_PAM,
     SPLIT,
+    DECODE_LINEAR,
     ENTRIES
 };
 
@@ -155,7 +156,8 @@ static const char *const entry_names[ENTRIES] = {"tk_load_block",
                                                  "tk_replay_record",
                                                  "tk_write_pam",
                                                  "tk_read_pam",
-                                                 "tk_split"};
+                                                 "tk_split",
+                                                 "tk_decode_linear"};
 
 /* What an entry takes, and so what it can refuse. */
 enum {
@@ -170,7 +172,8 @@ enum {
     TAKES_SIDES = 256,
     TAKES_HEADER = 512,
     TAKES_COUNT = 1024,
-    TAKES_REASON = 2048
+    TAKES_REASON = 2048,
+    TAKES_LINEAR = 4096
 };
 
 /* The buffers that a load writes. */
@@ -204,6 +207,7 @@ static const struct {
     [WRITE_PAM] = {TAKES_SIDES, 1 << PICTURE, 1 << PAM},
     [READ_PAM] = {TAKES_HEADER, 1 << PAM, 1 << PICTURE},
     [SPLIT] = {TAKES_COUNT, 1 << TO_SPLIT, 1 << SIDES},
+    [DECODE_LINEAR] = {TAKES_LINEAR | TAKES_PAIR | TAKES_PICTURE, 1 << SOURCE, 1 << PICTURE},
 };
 
 /* What a record asks for, by its kind. Of the two palette loads its numbers pick one in the end. */
@@ -273,7 +277,11 @@ static uint64_t texels(void) {
 /* Reads a texel in modes 0 and 1, by format and size; 0 for a pair that is not accepted. */
 static const uint8_t direct_reads[8][4] = {{0, 0, 2, 4}, {0}, {1, 1, 2, 2}, {1, 1, 2, 0}, {1, 1, 0, 0}, {0}, {0}, {0}};
 
-static uint32_t reads_each(void) { return now.tile.mode >= 2 ? 3 : direct_reads[now.tile.fmt][now.tile.siz]; }
+/* A source is decoded as in mode 0, and without the pair (2,3). */
+static uint32_t reads_each(void) {
+    if (now.entry == DECODE_LINEAR && now.tile.fmt == 2 && now.tile.siz == 3) return 0;
+    return now.entry != DECODE_LINEAR && now.tile.mode >= 2 ? 3 : direct_reads[now.tile.fmt][now.tile.siz];
+}
 
 static bool wrong_length(void) {
     unsigned lent = entries[now.entry].read | entries[now.entry].written;
@@ -296,9 +304,14 @@ static bool tile_outside(void) {
            side_outside();
 }
 
+static bool linear_fields_outside(void) {
+    return now.tile.fmt > 7 || now.tile.siz > 3 || now.tile.palette > 15 || side_outside();
+}
+
 static bool load_outside(void) {
     const uint32_t *n = now.numbers;
     size_t source_length = now.entry == REPLAY_RECORD ? now.length : buffers[SOURCE].length;
+    if (now.does == DECODE_LINEAR) return source_length > 65536 || n[2] > 65535;
     if (now.image_siz > 3 || source_length > 65536) return true;
     if (now.does == LOAD_BLOCK) return n[0] > 4095 || n[1] > 2048;
     if (now.does == LOAD_TILE) return n[0] > 1024 || n[1] > 512 || n[2] > 65535;
@@ -344,9 +357,10 @@ static uint32_t expected_refusal(void) {
     if ((takes & TAKES_LOAD_FIELDS) && load_fields_outside()) return 2;
     if ((takes & TAKES_TILE) && tile_outside()) return 2;
     if ((takes & TAKES_SIDES) && side_outside()) return 2;
+    if ((takes & TAKES_LINEAR) && linear_fields_outside()) return 2;
     if ((takes & TAKES_TILE) && now.tile.mode > 3) return 3;
     if ((takes & TAKES_LANE) && now.lane > 3) return 3;
-    if ((takes & TAKES_LOAD) && load_outside()) return 4;
+    if ((takes & (TAKES_LOAD | TAKES_LINEAR)) && load_outside()) return 4;
     if ((takes & TAKES_RECORD) && (takes & TAKES_LOAD) && source_beyond()) return 11;
     if ((takes & TAKES_PAIR) && reads_each() == 0) return 5;
     if ((takes & TAKES_SIDES) && texels() == 0) return 12;
@@ -414,6 +428,18 @@ static void choose_load(void) {
     }
 }
 
+/* Mostly a pair that has a linear reading. One that has none comes with a stride out of range as often as not. */
+static void choose_linear(void) {
+    if (one_in(8)) {
+        if (one_in(2)) now.numbers[2] = 65536 + up_to(9);
+        return;
+    }
+    do {
+        now.tile.fmt = up_to(4);
+        now.tile.siz = up_to(3);
+    } while (reads_each() == 0);
+}
+
 /* A reason that is taken, at the limits as often as not. */
 static void choose_reason(void) { now.reason = one_in(2) ? 1 + up_to(TK_REASON_MOST - 1) : one_in(2) ? 1 : TK_REASON_MOST; }
 
@@ -423,11 +449,12 @@ static void choose_last(void) {
     now.last = one_in(2) ? up_to(65534) : limits[up_to(4)] - up_to(1);
 }
 
-/* The most that each load takes of its own numbers. */
+/* The most that each load, and the decoding of a source, take of their own numbers. */
 static const uint32_t own_most[][3] = {[LOAD_BLOCK] = {4095, 2048},
                                        [LOAD_TILE] = {1024, 512, 65535},
                                        [LOAD_TLUT_HARDWARE] = {1024, 1, 65535},
-                                       [LOAD_TLUT_ROWS] = {1024, 1024, 65535}};
+                                       [LOAD_TLUT_ROWS] = {1024, 1024, 65535},
+                                       [DECODE_LINEAR] = {0, 0, 65535}};
 
 /* Puts one number at its limit, outside its range, or anywhere. */
 static void break_one(void) {
@@ -439,7 +466,7 @@ static void break_one(void) {
                              &now.tile.width, &now.tile.height, &now.lane,         &now.image_siz, &now.numbers[0],
                              &now.numbers[1], &now.numbers[2],  &now.reason,       &now.last};
     uint32_t i = one_in(6) ? 17 + up_to(1) : up_to(18);
-    bool is_own = (entries[now.does].takes & TAKES_LOAD) && i >= OWN && i < OWN + 3;
+    bool is_own = (entries[now.does].takes & (TAKES_LOAD | TAKES_LINEAR)) && i >= OWN && i < OWN + 3;
     uint32_t limit = is_own ? own_most[now.does][i - OWN] : most[i];
     switch (up_to(4)) {
         case 0: *numbers[i] = limit; break;
@@ -660,6 +687,7 @@ static void choose_lengths(void) {
         if (i == SOURCE) right = one_in(16) ? right : up_to(600);
         if (i == SOURCE && now.entry == REPLAY_RECORD) right = (size_t)now.length + (one_in(4) ? up_to(100) : 0);
         if (i == PICTURE) right = (size_t)(4 * count + (one_in(4) ? up_to(100) : 0));
+        if (i == PICTURE && now.entry == DECODE_LINEAR && one_in(8)) right = up_to((uint32_t)right);
         if (i == TRAIL) right = (size_t)(2 * each * count + (one_in(4) ? up_to(100) : 0));
         if (i == PAM) right = (size_t)(header + 4 * count + (one_in(4) ? up_to(100) : 0));
         if (i == TO_SPLIT) right = (size_t)(now.count <= TK_ENTRIES_MOST ? now.count : up_to(12)) * TK_ENTRY_BYTES;
@@ -678,6 +706,7 @@ static void choose_call(void) {
     memset(now.numbers, 0, sizeof now.numbers);
     choose_tile();
     choose_load();
+    if (now.entry == DECODE_LINEAR) choose_linear();
     choose_reason();
     choose_last();
     now.lane = up_to(3);
@@ -782,12 +811,16 @@ static void make_call(void) {
             answer.numbers[1] = given.height;
             break;
         }
-        default: {
+        case SPLIT: {
             tk_split_answer given = tk_split(now.count, LENT(TO_SPLIT), LENT(SIDES));
             answer.refusal = given.refusal;
             answer.numbers[0] = given.tuning;
             answer.numbers[1] = given.held_out;
+            break;
         }
+        default:
+            set_answer(
+                tk_decode_linear(LENT(SOURCE), t->fmt, t->siz, t->palette, t->width, t->height, n[2], LENT(PICTURE)));
     }
 }
 
@@ -919,11 +952,46 @@ static void check_split(void) {
     if (answer.numbers[0] != now.count - held_out || answer.numbers[1] != held_out) fail("the totals");
 }
 
+/* A byte of the source; past its end 0. */
+static uint8_t source_byte(uint64_t place) { return place < buffers[SOURCE].length ? buffers[SOURCE].lent[place] : 0; }
+
+/* A number of so few bits, repeated to eight. */
+static uint8_t widened(uint32_t number, uint32_t bits) {
+    uint32_t wide = 0, have = 0;
+    for (; have < 8; have += bits) wide = wide << bits | number;
+    return (uint8_t)(wide >> (have - 8));
+}
+
+/* What a decoding left, texel by texel, as the header says. Of its numbers it takes the stride, as a tile load does. */
+static void check_linear(void) {
+    uint32_t fmt = now.tile.fmt, siz = now.tile.siz;
+    for (uint64_t i = 0; i < texels(); i++) {
+        uint64_t x = i % now.tile.width, row = i / now.tile.width * now.numbers[2];
+        uint64_t place = row + (siz == 0 ? x / 2 : siz == 1 ? x : siz == 2 ? 2 * x : 4 * x);
+        uint8_t b[4], due[4];
+        for (uint64_t k = 0; k < 4; k++) b[k] = source_byte(place + k);
+        uint32_t half = x % 2 == 0 ? b[0] >> 4 : b[0] & 15, pair = (uint32_t)b[0] << 8 | b[1], v = b[0];
+        if (siz == 0) v = fmt == 2 ? 16 * now.tile.palette + half : widened(half, 4);
+        for (uint64_t k = 0; k < 4; k++) due[k] = (uint8_t)v;
+        if (fmt == 0 && siz == 2) {
+            for (uint32_t k = 0; k < 3; k++) due[k] = widened(pair >> (11 - 5 * k) & 31, 5);
+            due[3] = pair % 2 == 0 ? 0 : 255;
+        }
+        if (fmt == 0 && siz == 3) memcpy(due, b, 4);
+        if (fmt == 2 && siz == 2) due[1] = due[3] = b[1];
+        if (fmt == 3 && siz == 0) memset(due, widened(half >> 1, 3), 3), due[3] = half % 2 == 0 ? 0 : 255;
+        if (fmt == 3 && siz == 1) memset(due, widened(v >> 4, 4), 3), due[3] = widened(v & 15, 4);
+        if (fmt == 3 && siz == 2) due[3] = b[1];
+        if (memcmp(buffers[PICTURE].lent + 4 * i, due, 4) != 0) fail("a texel of the source");
+    }
+}
+
 static void check_counts(void) {
     if (now.entry == SPLIT) check_split();
     if (now.entry == WRITE_PAM) check_written();
     if (now.entry == READ_PAM) check_read();
     if (now.entry == REJECTION) check_reason();
+    if (now.entry == DECODE_LINEAR) check_linear();
     if (entries[now.does].takes & TAKES_LOAD) {
         check_load_counts();
         check_numbers();
@@ -1018,6 +1086,12 @@ int main(int argc, char **argv) {
     for (int number = 0; done >= MANY_CALLS && number < NUMBERS; number++) {
         if (number == NOT_GIVEN || times_answered(number, 0, ENTRIES) > 0) continue;
         fprintf(stderr, "rough: %d never came up\n", number);
+        return 1;
+    }
+    static const int of_decoding[] = {0, 2, 4, 5, 6};
+    for (size_t i = 0; done >= MANY_CALLS && i < sizeof of_decoding / sizeof *of_decoding; i++) {
+        if (answered[DECODE_LINEAR][of_decoding[i]] > 0) continue;
+        fprintf(stderr, "rough: %d never came up of %s\n", of_decoding[i], entry_names[DECODE_LINEAR]);
         return 1;
     }
     return 0;

@@ -5,6 +5,7 @@ pub mod Readings
 pub mod Keys
 pub mod Over
 pub mod Parts
+pub mod Texels
 pub mod Bits
 pub mod Maps
 pub mod Numbers

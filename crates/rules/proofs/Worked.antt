@@ -1,13 +1,14 @@
 -- The worked examples hold, every row of the table: antt computes both sides.
 use lib.Dec.{T}
-use Rattle.rules.specs.Base.{tab, tabFrom, concat, mem, any, all, same, howMany, distinct, numberAt, isWritten, stamped, stamps}
+use Rattle.rules.specs.Base.{tab, tabFrom, concat, mem, any, all, same, howMany, distinct, over, numberAt, isWritten, stamped, stamps}
 use Rattle.rules.specs.Reading.{trail, given, andThen, prepend, upTo}
 use Rattle.rules.specs.Texdec.{accepted, acceptedDirect, formatOf}
 use Rattle.rules.specs.Sampling.{flag, texels}
 use Rattle.rules.specs.Load.{stored, written, list4, splitStores, wholeStores, wordStores, blockStores, tileStores, tlutStores}
 use Rattle.rules.specs.Load.{hardwareStores, entryStores, entryRow, rowStores, reasoned, madeUp}
-use Rattle.rules.specs.Calls.{blockCall, tlutHardwareCall, tlutRowsCall}
+use Rattle.rules.specs.Calls.{blockCall, tlutHardwareCall, tlutRowsCall, linearCall}
 use Rattle.rules.specs.Picture.{picture, visiblePicture, plain, plainRow, lookup, lookupRow, texel, paletted, direct}
+use Rattle.rules.specs.Linear.{linear, linearRow, linearTexel}
 use Rattle.rules.specs.Key.{key, keyOf, kept, keptCount}
 use Rattle.rules.specs.Reach.{rowBytes, trailingZeros, rowPeriod, reachRows, doubled, reachAt, reachRow, reachPlain, reachWhole}
 use Rattle.rules.specs.Reach.{reach, hasLoad, paletteOrder, firstReason, rejection}
@@ -25,5 +26,5 @@ unfolding table tab tabFrom concat mem any distinct trail given andThen prepend 
     written stamps stamped tileStores storesIn outsideIn recordTests countOf left tested outcome inFile replayed lines texts replayText
     all same howMany madeUp entryStores entryRow blockCall numberAt isWritten
     rowBytes trailingZeros rowPeriod reachRows doubled reachAt reachRow reachPlain reachWhole reach hasLoad
-    reasoned paletteOrder firstReason rejection tlutHardwareCall tlutRowsCall
+    reasoned paletteOrder firstReason rejection tlutHardwareCall tlutRowsCall linearCall linear linearRow linearTexel over
 worked = tt

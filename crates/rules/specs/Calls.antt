@@ -8,13 +8,14 @@ use lib.ListN.{length}
 use Rattle.rules.specs.Base.{one, over}
 use Rattle.rules.specs.Refusal.{Test, _if_, Outcome, call, callOr}
 use Rattle.rules.specs.Tile.{Tile, bankSize, mapSize, writtenSize, reasonsSize, laneMapSize}
-use Rattle.rules.specs.Tile.{loadFieldsOutside, tileOutside, modeOutside, laneOutside}
+use Rattle.rules.specs.Tile.{loadFieldsOutside, linearFieldsOutside, tileOutside, modeOutside, laneOutside}
 use Rattle.rules.specs.Texdec.{accepted}
 use Rattle.rules.specs.Sampling.{flag, extentWidth, extentHeight, lookupTexels}
 use Rattle.rules.specs.Load.{Store, loadTile, blockStores, tileStores, hardwareStores, rowStores, stored, written, following, madeUp}
 use Rattle.rules.specs.Load.{Reason, reasonOutside, reasonLeft, reasoned}
 use Rattle.rules.specs.Reading.{Reading, given, trail, encoded}
 use Rattle.rules.specs.Picture.{plain, lookup}
+use Rattle.rules.specs.Linear.{linearPair, linear}
 use Rattle.rules.specs.Reach.{reachMap, hasLoad, rejection, laneMap}
 use Rattle.rules.specs.Key.{key, keptCount}
 
@@ -198,6 +199,26 @@ samplingLookupCall bank t mode lane out = pictureCall (lookup t mode lane) looku
 
 abbrev pub samplingLookupObservedCall : List ℕ → Tile → ℕ → ℕ → List ℕ → List ℕ → Outcome
 samplingLookupObservedCall bank t mode lane out seen = observedCall (lookup t mode lane) lookupTexels bank t mode lane out seen
+
+-- Document 02's item 11: the linear decoding of a source, without a bank; the count of reads is answered. Its source and stride have the
+-- ranges of a load's, and a pair that is not accepted in mode 0, or is (2,3), has no linear decoding.
+abbrev pub linearOutside : ℕ → ℕ → Bool
+linearOutside size stride = ltb 65536 size || ltb 65535 stride
+
+abbrev pub linearTests : List ℕ → Tile → ℕ → List ℕ → List Test
+linearTests src t stride out =
+    (2 if linearFieldsOutside t)
+    ∷ (4 if linearOutside (length src) stride)
+    ∷ (5 if not (linearPair (t .fmt) (t .siz)))
+    ∷ shortPicture (plainTexels t) out
+    ∷ []
+
+unfoldable pub linearCall : List ℕ → Tile → ℕ → List ℕ → Outcome
+linearCall src t stride out =
+    call (linearTests src t stride out)
+    (length (trail (linear t stride) src) ∷ [])
+    (over (given (linear t stride) src) out ∷ [])
+    (out ∷ [])
 
 -- The key: bank and key are lent, and the kept count is answered.
 abbrev pub keyTests : List ℕ → Tile → ℕ → ℕ → List ℕ → List Test

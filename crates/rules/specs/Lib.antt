@@ -6,6 +6,7 @@ pub mod Sampling
 pub mod Load
 pub mod Reading
 pub mod Picture
+pub mod Linear
 pub mod Reach
 pub mod Key
 pub mod Refusal

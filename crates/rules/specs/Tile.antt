@@ -92,6 +92,10 @@ sized t width height =
 abbrev pub loadTileFrom : ℕ → ℕ → ℕ → ℕ → Tile
 loadTileFrom fmt siz line tmem-addr = tileFrom fmt siz 0 0 0 0 0 line tmem-addr 0 0
 
+-- a tile of the five numbers that a linear decoding takes; the others are 0
+abbrev pub linearTileFrom : ℕ → ℕ → ℕ → ℕ → ℕ → Tile
+linearTileFrom fmt siz palette width height = tileFrom fmt siz palette 0 0 0 0 0 0 width height
+
 -- width and height go up to this
 abbrev pub sideLimit : ℕ
 sideLimit = 1024
@@ -103,6 +107,10 @@ sidesOutside width height = ltb sideLimit width || ltb sideLimit height
 -- "Of the tile a load takes fmt, siz, line and tmem_addr alone": one of them is outside its range
 abbrev pub loadFieldsOutside : Tile → Bool
 loadFieldsOutside t = ltb 7 (t .fmt) || ltb 3 (t .siz) || ltb 511 (t .line) || ltb 511 (t .tmem-addr)
+
+-- of the tile a linear decoding takes fmt, siz, palette, width and height alone: one of them is outside its range
+abbrev pub linearFieldsOutside : Tile → Bool
+linearFieldsOutside t = ltb 7 (t .fmt) || ltb 3 (t .siz) || ltb 15 (t .palette) || sidesOutside (t .width) (t .height)
 
 -- "Tile: fmt 0..7, siz 0..3, palette 0..15, cms and cmt 0..3, masks and maskt 0..15, line and tmem_addr 0..511, width
 -- and height 0..1,024": a field is outside its range

@@ -15,6 +15,7 @@ use Rattle.tulonkasa.proofs.maps.tk_reach.Reads as tk-reach
 use Rattle.tulonkasa.proofs.maps.tk_tile_has_load.Reads as tk-tile-has-load
 use Rattle.tulonkasa.proofs.maps.tk_rejection.Reads as tk-rejection
 use Rattle.tulonkasa.proofs.maps.tk_palette_nonreplicated.Reads as tk-palette-nonreplicated
+use Rattle.tulonkasa.proofs.pictures.tk_decode_linear.Reads as tk-decode-linear
 use Rattle.tulonkasa.proofs.pictures.tk_sample_tile.Reads as tk-sample-tile
 use Rattle.tulonkasa.proofs.pictures.tk_sample_tile_observed.Reads as tk-sample-tile-observed
 use Rattle.tulonkasa.proofs.pictures.tk_sampling_lookup.Reads as tk-sampling-lookup
@@ -70,6 +71,10 @@ pub tk-palette-nonreplicated-one : (w : _) (a : _) (r s : _) (e f : _) → tk-pa
     → tk-palette-nonreplicated.Post w a s f
     → (r ≡ s) × (now (e .1 .0) ∷ [] ≡ now (f .1 .0) ∷ [])
 tk-palette-nonreplicated-one w a r s e f p q = refusal-determined _ r s _ _ p q
+
+pub tk-decode-linear-one : (w : _) (a : _) (r s : _) (e f : _) → tk-decode-linear.Post w a r e → tk-decode-linear.Post w a s f
+    → (r ≡ s) × (now (e .1 .1 .1 .1 .1 .1 .1 .0) ∷ [] ≡ now (f .1 .1 .1 .1 .1 .1 .1 .0) ∷ [])
+tk-decode-linear-one w a r s e f p q = answered-determined _ r s _ _ p q
 
 pub tk-sample-tile-one : (w : _) (a : _) (r s : _) (e f : _) → tk-sample-tile.Post w a r e → tk-sample-tile.Post w a s f
     → (r ≡ s) × (now (e .1 .1 .1 .1 .1 .1 .1 .1 .1 .1 .1 .1 .1 .1 .0) ∷ [] ≡ now (f .1 .1 .1 .1 .1 .1 .1 .1 .1 .1 .1 .1 .1 .1 .0) ∷ [])

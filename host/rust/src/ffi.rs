@@ -119,6 +119,19 @@ loads! {
 }
 
 extern "C" {
+    pub fn tk_decode_linear(
+        source: *const u8,
+        source_length: usize,
+        fmt: u32,
+        siz: u32,
+        palette: u32,
+        width: u32,
+        height: u32,
+        stride: u32,
+        picture: *mut u8,
+        picture_length: usize,
+    ) -> Answer;
+
     pub fn tk_write_pam(
         width: u32,
         height: u32,

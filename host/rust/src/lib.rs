@@ -1,5 +1,6 @@
 //! Texture memory of a cartridge game console: loads, which of them wrote a byte and why its source was rejected if it was, pictures
-//! (as files too), a key for each picture, the replay of captured loads, and the [`split`] of captures into tuning and held-out ones.
+//! (as files, and straight from a source too), a key for each picture, the replay of captured loads, and the [`split`] of captures into
+//! tuning and held-out ones.
 //!
 //! The work is done by a static library whose every function is proved to meet its contract on every input. This crate
 //! gives it Rust's types: a [`Bank`] of memory, a [`Tile`] that says how to read it, and a [`Refusal`] where a number is out

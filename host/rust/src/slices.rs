@@ -115,6 +115,27 @@ pub fn sampling_lookup_observed(
     counted(call!(tk_sampling_lookup_observed([bank], tile, lane, [mut picture], [mut trail])))
 }
 
+/// Decodes a source to a picture, without a bank, and answers the count of source bytes that were asked for. Of the tile it takes `fmt`,
+/// `siz`, `palette`, `width` and `height`.
+pub fn decode_linear(source: &[u8], tile: &Tile, stride: u32, picture: &mut [u8]) -> Result<u32, Refusal> {
+    // SAFETY: each pointer comes with its slice's length, and Rust's borrows do not overlap.
+    let answer = unsafe {
+        ffi::tk_decode_linear(
+            source.as_ptr(),
+            source.len(),
+            tile.fmt,
+            tile.siz,
+            tile.palette,
+            tile.width,
+            tile.height,
+            stride,
+            picture.as_mut_ptr(),
+            picture.len(),
+        )
+    };
+    counted(answer)
+}
+
 /// Writes a picture as a PAM file, and answers the count of the file's bytes. A file of [`crate::PAM_HEADER_MOST`] bytes and four
 /// a texel is long enough.
 pub fn write_pam(width: u32, height: u32, picture: &[u8], file: &mut [u8]) -> Result<u32, Refusal> {

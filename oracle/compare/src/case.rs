@@ -1,4 +1,5 @@
 //! One comparison's input: plain numbers, so that a failing one can be printed and made smaller.
+use crate::linear;
 use original::calls::{Load, Picture};
 use original::TileDescriptor;
 use std::fmt;
@@ -13,12 +14,19 @@ pub enum Call {
     LoadTlut,
     LoadTlutRows,
     Sampling,
-    Picture { which: Picture, observed: bool },
+    Picture {
+        which: Picture,
+        observed: bool,
+    },
     Reach,
     TileHasLoad,
     Rejection,
     PaletteNonreplicated,
     Key,
+    /// A source decoded without a bank.
+    Linear,
+    /// The same, of a source whose tile load and picture give the same.
+    RoundTrip,
 }
 
 /// What a buffer that is lent to be read holds.
@@ -39,7 +47,7 @@ pub struct Case {
     pub image_siz: u32,
     /// dxt and words; or rows, words and stride; or count, rows and stride. For `TileHasLoad`: the word address, words and
     /// rows of the tile load that writes before the question. For `Rejection`: three addresses that have a reason; a larger number
-    /// for none.
+    /// for none. For `Linear` and `RoundTrip`: the stride.
     pub numbers: [u32; 3],
     /// With a reason a load is a rejected one.
     pub reason: Option<u32>,
@@ -52,8 +60,8 @@ pub struct Case {
     pub seed: u64,
 }
 
-/// How a load goes through its source: so many pieces of so many bytes, each so far behind the one before. Sources are chosen by
-/// it; nothing is compared with it.
+/// How a load, or the decoding of a source, goes through it: so many pieces of so many bytes, each so far behind the one before. Sources
+/// are chosen by it; nothing is compared with it.
 #[derive(Clone, Copy)]
 pub struct Pieces {
     pub count: u32,
@@ -109,13 +117,14 @@ impl Case {
         self.numbers[1] == 1 && self.image_siz > 0
     }
 
-    /// How the load goes through its source.
+    /// How the source is gone through.
     pub fn pieces(&self) -> Pieces {
         let [a, b, c] = self.numbers;
         let (count, bytes, apart) = match (self.call, self.image_siz) {
             (Call::LoadBlock, _) => (b, 8, 8),
             (Call::LoadTlut, 1 | 3) if b == 1 => (a.div_ceil(16 >> self.image_siz), 2, 8),
             (Call::LoadTlut | Call::LoadTlutRows, _) => (b, 2 * a, c),
+            (Call::Linear | Call::RoundTrip, _) => (self.tile.height, linear::row_bytes(&self.tile), a),
             _ => (a, 8 * b, c),
         };
         Pieces { count, bytes, apart }

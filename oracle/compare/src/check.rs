@@ -2,11 +2,12 @@
 use crate::buffers::{asked_reasons, found_reasons, Buffers};
 use crate::case::{descriptor, Call, Case, Fill};
 use crate::input::Input;
+use crate::linear;
 use crate::numbers;
 use crate::program::Program;
 use crate::random::Random;
 use crate::replay;
-use original::calls::{self, Bytes, Counted, Map, Memory, Picture, Reach};
+use original::calls::{self, Bytes, Counted, Load, Map, Memory, Picture, Reach};
 use std::ops::AddAssign;
 use tulonkasa::{slices, Loaded, Refusal, Sampling, Tile, LOOKUP_TEXELS};
 
@@ -87,15 +88,16 @@ impl Workspace {
             Call::Rejection => self.rejection(case),
             Call::PaletteNonreplicated => lanes(&bank),
             Call::Key => key(&self.bank, case),
+            Call::Linear => self.linear(case),
+            Call::RoundTrip => self.round_trip(case),
         }?;
         same("the bank that was lent to be read", &bank[..], &self.bank[..])?;
         Ok(Amount { calls: 1, ..amount })
     }
 
     fn load(&mut self, case: &Case) -> Result<Amount, String> {
-        let source = &mut self.source[..case.source_length as usize];
-        fill(source, case.fill, case.seed + 1);
-        let untouched = source.to_vec();
+        let untouched = self.source(case);
+        let source = &self.source[..untouched.len()];
         let before = Buffers {
             bank: *self.bank,
             written: numbers::found(case.fill, case.seed + 2),
@@ -185,6 +187,65 @@ impl Workspace {
             (Picture::Lookup, false) => slices::sampling_lookup(bank, tile, lane, picture),
             (Picture::Lookup, true) => slices::sampling_lookup_observed(bank, tile, lane, picture, trail),
         }
+    }
+
+    /// The model's picture, which has to be the original's too, save of the one pair that the original alone decodes.
+    fn linear(&mut self, case: &Case) -> Result<Amount, String> {
+        let (tile, source) = (&case.tile, self.source(case));
+        let model = linear::model(tile, case.numbers[0], &source);
+        if linear::against(case) != linear::Against::Nothing && (tile.fmt, tile.siz) != (2, 3) {
+            let original = linear::original(case, &source);
+            same_answer(
+                original.as_ref().map(Vec::len).ok_or(Refusal::Pair),
+                model.as_ref().map(|(made, _)| made.len()).ok_or(Refusal::Pair),
+            )?;
+            same("the model's picture", &original.unwrap_or_default(), &model.clone().unwrap_or_default().0)?;
+        }
+        self.decoded(case, &source, model)
+    }
+
+    /// The picture that the original makes after its own load into the bank. Tiles of which it need not be the same are met only while
+    /// a failing case is made smaller.
+    fn round_trip(&mut self, case: &Case) -> Result<Amount, String> {
+        let (tile, source) = (descriptor(&case.tile), self.source(case));
+        let Some((_, reads)) = linear::model(&case.tile, 0, &[]).filter(|_| linear::fits(&case.tile)) else {
+            return Ok(Amount::default());
+        };
+        let mut memory = Memory::new(&self.bank);
+        let (rows, words) = (case.tile.height as usize, linear::row_words(&case.tile) as usize);
+        memory.load(&source, &tile, tile.siz, Load::Tile { rows, words, stride: case.numbers[0] as usize });
+        let (mode, lane) = (case.tile.mode as u8, case.lane as usize);
+        let picture = calls::picture(&memory.bytes(), &tile, mode, lane, Picture::Plain);
+        self.decoded(case, &source, picture.map(|picture| (picture, reads)))
+    }
+
+    /// The case's source.
+    fn source(&mut self, case: &Case) -> Vec<u8> {
+        let source = &mut self.source[..case.source_length as usize];
+        fill(source, case.fill, case.seed + 1);
+        source.to_vec()
+    }
+
+    /// The archive's decoding of a source, against the picture that is due with its count of reads; none for a pair that is refused.
+    fn decoded(&mut self, case: &Case, source: &[u8], due: Option<(Vec<u8>, u32)>) -> Result<Amount, String> {
+        let needed = 4 * (case.tile.width * case.tile.height) as usize;
+        let length = lent(needed, case.surplus, -1);
+        let answered = match &due {
+            None => Err(Refusal::Pair),
+            Some(_) if length < needed => Err(Refusal::Picture),
+            Some((_, reads)) => Ok(*reads),
+        };
+        self.picture[..length + FENCE].fill(BEFORE);
+        let lent_source = &self.source[..source.len()];
+        same_answer(
+            answered,
+            slices::decode_linear(lent_source, &case.tile, case.numbers[0], &mut self.picture[..length]),
+        )?;
+        same("the source", source, lent_source)?;
+        let made = due.filter(|_| answered.is_ok()).map_or_else(Vec::new, |(made, _)| made);
+        same_front("the picture", &made, &self.picture[..length + FENCE])?;
+        let (texels, reads) = (made.len() as u64 / 4, answered.unwrap_or(0).into());
+        Ok(Amount { texels, reads, refused: answered.is_err().into(), ..Amount::default() })
     }
 
     fn reach(&self, case: &Case) -> Result<Amount, String> {

@@ -3,6 +3,7 @@ use crate::capture::place::*;
 use crate::capture::{By, Companion, Record, Run, BLOCK, END_BYTES, KEY, RECORD_BYTES, TILE, TLUT};
 use crate::case::{Call, Case, Fill, Pieces};
 use crate::input::Input;
+use crate::linear;
 use original::calls::Picture;
 use tulonkasa::Tile;
 
@@ -85,6 +86,12 @@ impl Random {
     fn case(&mut self, call: Call) -> Case {
         let texels = if self.to(255) == 0 { 1 << 20 } else { 1 << 14 };
         let mut case = Case::new(call, self.tile(texels));
+        if call == Call::RoundTrip {
+            case.tile = self.fitting_tile(case.tile.palette);
+        }
+        if call == Call::Linear && self.to(7) != 0 {
+            (case.tile.fmt, case.tile.siz) = self.pick(&linear::PAIRS);
+        }
         case.lane = self.to(3);
         case.image_siz = self.to(3);
         case.surplus = self.pick(&[0, 0, 0, 1, 2, 7, 64, -1, -2]);
@@ -99,6 +106,7 @@ impl Random {
             Call::LoadTlut | Call::LoadTlutRows => [self.near(1024), 1 + self.near(1023), self.near(65535)],
             Call::TileHasLoad => [self.near(511), self.near(3), self.near(2)],
             Call::Rejection => std::array::from_fn(|_| self.reasoned_address(&case.tile)),
+            Call::Linear | Call::RoundTrip => [self.stride(&case.tile), 0, 0],
             _ => [0; 3],
         };
         if case.is_tlut() && self.to(1) == 0 {
@@ -115,7 +123,33 @@ impl Random {
             _ => self.last(),
         };
         case.source_length = self.source_length(case.pieces());
+        if call == Call::Linear && self.to(1) == 0 {
+            case.source_length = case.pieces().end().min(65536);
+        }
         case
+    }
+
+    /// A tile whose picture after a load is that of its source.
+    fn fitting_tile(&mut self, palette: u32) -> Tile {
+        let (fmt, siz) = self.pick(&linear::PAIRS);
+        let lines = linear::lines_most(fmt, siz);
+        let line = self.near(lines.min(511));
+        let height = self.near(lines.checked_div(line).map_or(256, |most| most.min(256)));
+        let tmem_addr = self.near((lines - height * line).min(511));
+        let width = self.near(linear::width_most(siz, line));
+        Tile { fmt, siz, palette, mode: self.to(1), line, tmem_addr, width, height, ..Tile::default() }
+    }
+
+    /// A source's stride: mostly about a row's bytes, rows one behind the other as often as not; else any.
+    fn stride(&mut self, tile: &Tile) -> u32 {
+        let row = linear::row_bytes(tile);
+        match self.to(7) {
+            0 => self.near(65535),
+            1 => self.to(row),
+            2 => row + self.to(16),
+            3 => linear::row_words(tile) * 8,
+            _ => row,
+        }
     }
 
     /// The number of the load before: mostly one that leaves some, else one that leaves few or none.
@@ -234,7 +268,7 @@ impl Random {
 }
 
 /// The calls, each as often as it is to be tried.
-const CALLS: [Call; 18] = [
+const CALLS: [Call; 20] = [
     Call::LoadBlock,
     Call::LoadTile,
     Call::LoadTlut,
@@ -253,4 +287,6 @@ const CALLS: [Call; 18] = [
     Call::Rejection,
     Call::PaletteNonreplicated,
     Call::Key,
+    Call::Linear,
+    Call::RoundTrip,
 ];

@@ -1,10 +1,12 @@
 //! Cases by structure: every pair, mode and lane with the limits of the sizes, tiles that repeat, the limits of every load, small loads
-//! from sources of every length, with every kind of last number and of reason, and reasons about what a tile reaches.
+//! from sources of every length, with every kind of last number and of reason, reasons about what a tile reaches, sources decoded without
+//! a bank, and those of which a load and its picture give the same.
 //! Runs of records: the limits of every number, several faults at a time, palettes about the pick between the two loads, keys of tiles that
 //! repeat, sources at the companion's end, and loads over each other's bytes until no number is left.
 use crate::capture::place::*;
 use crate::capture::{By, Companion, Record, Run, BLOCK, KEY, RECORD_BYTES, TILE, TLUT};
 use crate::case::{Call, Case, Fill};
+use crate::linear;
 use original::calls::Picture;
 use std::collections::BTreeSet;
 use tulonkasa::{Tile, SIDE_MOST};
@@ -100,6 +102,10 @@ const REASONED: [[u32; 5]; 8] = [
     [5, 2, 1, 7, 15],
 ];
 
+/// Width and height of sources that are decoded.
+const LINEAR: [[u32; 2]; 13] =
+    [[0, 0], [0, 3], [3, 0], [1, 1], [1, 2], [2, 2], [3, 3], [8, 2], [17, 5], [33, 4], [5, 257], [1024, 2], [2, 1024]];
+
 pub const PICTURES: [Call; 4] = [
     Call::Picture { which: Picture::Plain, observed: false },
     Call::Picture { which: Picture::Plain, observed: true },
@@ -121,6 +127,8 @@ pub fn cases() -> Vec<Case> {
     reasons_in_reach(&mut cases);
     reasons_in_palettes(&mut cases);
     banks(&mut cases);
+    linear_sources(&mut cases);
+    round_trips(&mut cases);
     cases
 }
 
@@ -367,6 +375,63 @@ fn banks(cases: &mut Vec<Case>) {
     for fill in [Fill::Zero, Fill::Rising, Fill::Random, Fill::Palette] {
         for seed in 0..64 {
             cases.push(Case { fill, seed, ..Case::new(Call::PaletteNonreplicated, Tile::default()) });
+        }
+    }
+}
+
+/// Strides about a row's bytes, and the longest; and none.
+fn strides(tile: &Tile) -> BTreeSet<u32> {
+    let row = linear::row_bytes(tile);
+    [0, 1, row / 2, row.saturating_sub(1), row, row + 1, row + 8, 65535].into()
+}
+
+/// Cases of a source that is decoded: cut at its start, inside, at its end and beside that; and the longest.
+fn decodings(case: Case) -> impl Iterator<Item = Case> {
+    let end = case.pieces().end();
+    let lengths = BTreeSet::from([0, 1, end / 2, end.saturating_sub(1), end, end + 1, 65535, 65536]);
+    lengths.into_iter().filter(|&length| length <= 65536).map(move |source_length| Case { source_length, ..case })
+}
+
+/// Every pair, those that are refused as well, in fewer sizes; even and odd sizes and the largest, strides and sources about what they
+/// need; and pictures that are one byte short, full and longer.
+fn linear_sources(cases: &mut Vec<Case>) {
+    for pair in 0..32 {
+        let sizes = if linear::PAIRS.contains(&(pair / 4, pair % 4)) { LINEAR.len() } else { 5 };
+        for [width, height] in LINEAR.into_iter().take(sizes) {
+            let tile =
+                Tile { fmt: pair / 4, siz: pair % 4, palette: (pair + width) % 16, width, height, ..Tile::default() };
+            for stride in strides(&tile) {
+                let case = Case { numbers: [stride, 0, 0], ..Case::new(Call::Linear, tile) };
+                cases.extend(decodings(case));
+            }
+            let case =
+                Case { numbers: [linear::row_bytes(&tile), 0, 0], source_length: 99, ..Case::new(Call::Linear, tile) };
+            cases.extend([-1, 1, 2, 64].map(|surplus| Case { surplus, ..case }));
+        }
+    }
+}
+
+/// Tiles whose lines fit, in every pair: of no line, one, several and all; at the bank's start and up to its end; of widths up to the
+/// line's.
+fn round_trips(cases: &mut Vec<Case>) {
+    for (fmt, siz) in linear::PAIRS {
+        let most = linear::lines_most(fmt, siz);
+        let shapes = [[0, 7], [1, 0], [1, 1], [1, 3], [1, 256], [2, most / 2], [3, 5], [most / 2, 2], [most - 1, 1]];
+        for [line, height] in shapes {
+            let (last, widest) = ((most - line * height).min(511), linear::width_most(siz, line));
+            for tmem_addr in BTreeSet::from([0, last / 2, last]) {
+                for width in BTreeSet::from([0, 1, 2, widest / 2 + 1, widest.saturating_sub(1), widest]) {
+                    let tile = Tile { fmt, siz, palette: 13, line, tmem_addr, width, height, ..Tile::default() };
+                    for stride in strides(&tile).into_iter().filter(|_| width <= widest) {
+                        let case = Case { numbers: [stride, 0, 0], ..Case::new(Call::RoundTrip, tile) };
+                        cases.extend(decodings(case).zip([0, 1].iter().cycle()).map(|(case, &mode)| Case {
+                            tile: Tile { mode, ..tile },
+                            lane: width % 4,
+                            ..case
+                        }));
+                    }
+                }
+            }
         }
     }
 }

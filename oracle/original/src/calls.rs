@@ -1,6 +1,7 @@
 //! The original's calls that are compared, each by its own function, on plain numbers and bytes.
 use crate::diag::DiagKind;
 use crate::hle::framebuffer_load::{FramebufferCopy, Tag, Tags};
+use crate::hle::texdec::FormatInfo;
 use crate::hle::tile_sampling::TileSampling;
 use crate::hle::tmem::{BankDecoder, Tmem};
 use crate::profiling;
@@ -205,6 +206,12 @@ pub fn picture_counted(
     let mut reads = 0;
     let picture = decode(bank, tile, mode, lane, which, |_| reads += 1)?;
     Some((picture, reads))
+}
+
+/// A source by the original's linear decoder, without a palette; none where it has no decoder for the pair.
+pub fn linear(source: &[u8], tile: &TileDescriptor) -> Option<Vec<u8>> {
+    let format = FormatInfo { fmt: tile.fmt, siz: tile.siz };
+    format.decode(source, tile.width.into(), tile.height.into(), &[], tile.palette, 0).ok()
 }
 
 /// The key, which the original has no call for: the bytes that the visible picture reads, and how many they are. The flag is the
