@@ -12,7 +12,7 @@ use Rattle.rules.specs.Key.{key, keyOf, kept, keptCount}
 use Rattle.rules.specs.Reach.{rowBytes, trailingZeros, rowPeriod, reachRows, doubled, reachAt, reachRow, reachPlain, reachWhole}
 use Rattle.rules.specs.Reach.{reach, hasLoad, paletteOrder, firstReason, rejection}
 use Rattle.rules.specs.Refusal.{first, settle, callOr, call}
-use Rattle.rules.specs.Lister.{recordTile, lineOf, recordLine, lowDigits, reversed, decimal, lineText, listing}
+use Rattle.rules.specs.Lister.{recordTile, lineTo, recordLineTo, lowDigits, reversed, decimal, lineText, listingTo}
 use Rattle.rules.specs.Replay.{storesIn, outsideIn, recordTests, countOf, left, tested, outcome, inFile, replayed, lines, texts}
 use Rattle.rules.specs.Replay.{replayText}
 use Rattle.rules.specs.Worked.{table, allSame}
@@ -21,7 +21,7 @@ pub worked : T (allSame table)
 unfolding table tab tabFrom concat mem any distinct trail given andThen prepend upTo accepted acceptedDirect formatOf flag texels
     stored list4 splitStores wholeStores wordStores blockStores tlutStores hardwareStores rowStores
     picture visiblePicture plain plainRow lookup lookupRow texel paletted direct key keyOf kept keptCount
-    first settle callOr call recordTile lineOf recordLine lowDigits reversed decimal lineText listing
+    first settle callOr call recordTile lineTo recordLineTo lowDigits reversed decimal lineText listingTo
     written stamps stamped tileStores storesIn outsideIn recordTests countOf left tested outcome inFile replayed lines texts replayText
     all same howMany madeUp entryStores entryRow blockCall numberAt isWritten
     rowBytes trailingZeros rowPeriod reachRows doubled reachAt reachRow reachPlain reachWhole reach hasLoad
