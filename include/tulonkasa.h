@@ -45,7 +45,7 @@ extern "C" {
 #define TK_SOURCE_MOST 65536   /* a load's source has at most this many bytes */
 #define TK_LOADS_MOST 65535    /* so many loads have numbers, 1 to this */
 #define TK_REASON_MOST 255     /* a rejected load has a reason from 1 to this */
-#define TK_SIDE_MOST 1024      /* width and height, of a tile or a picture, are at most this */
+#define TK_SIDE_MOST 4096      /* width and height, of a tile or a picture, are at most this */
 #define TK_TEXEL_READS_MOST 4  /* a texel reads at most this many bytes of the bank */
 #define TK_RECORD_BYTES 48     /* a record of a capture */
 #define TK_ENTRY_BYTES 4117    /* an entry of a split: 4 and 16 bytes, the lane's byte, and a key */
