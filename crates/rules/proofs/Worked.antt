@@ -6,7 +6,7 @@ use Rattle.rules.specs.Texdec.{accepted, acceptedDirect, formatOf}
 use Rattle.rules.specs.Sampling.{flag, texels}
 use Rattle.rules.specs.Load.{stored, written, list4, splitStores, wholeStores, wordStores, blockStores, tileStores, tlutStores}
 use Rattle.rules.specs.Load.{hardwareStores, entryStores, entryRow, rowStores, reasoned, madeUp}
-use Rattle.rules.specs.Calls.{blockCall, tlutHardwareCall, tlutRowsCall}
+use Rattle.rules.specs.Calls.{blockCall, tileCall, tlutHardwareCall, tlutRowsCall, samplingCall}
 use Rattle.rules.specs.Picture.{picture, visiblePicture, plain, plainRow, lookup, lookupRow, texel, paletted, direct}
 use Rattle.rules.specs.Key.{key, keyOf, kept, keptCount}
 use Rattle.rules.specs.Reach.{rowBytes, trailingZeros, rowPeriod, reachRows, doubled, reachAt, reachRow, reachPlain, reachWhole}
@@ -25,5 +25,5 @@ unfolding table tab tabFrom concat mem any distinct trail given andThen prepend 
     written stamps stamped tileStores storesIn outsideIn recordTests countOf left tested outcome inFile replayed lines texts replayText
     all same howMany madeUp entryStores entryRow blockCall numberAt isWritten
     rowBytes trailingZeros rowPeriod reachRows doubled reachAt reachRow reachPlain reachWhole reach hasLoad
-    reasoned paletteOrder firstReason rejection tlutHardwareCall tlutRowsCall
+    reasoned paletteOrder firstReason rejection tlutHardwareCall tlutRowsCall tileCall samplingCall
 worked = tt

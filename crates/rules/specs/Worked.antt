@@ -13,10 +13,10 @@ use Rattle.rules.specs.Texdec.{rgba16Texel, ia4Texel, ia8Texel}
 use Rattle.rules.specs.Sampling.{flag}
 use Rattle.rules.specs.Load.{Store, loadTile, stored, blockStores, tlutStores, Reason, ordinary, rejected, madeUp}
 use Rattle.rules.specs.Reach.{hasLoad, paletteOrder, rejection}
-use Rattle.rules.specs.Calls.{blockCall, tlutHardwareCall, tlutRowsCall}
-use Rattle.rules.specs.Picture.{picture, texel}
+use Rattle.rules.specs.Calls.{blockCall, tileCall, tlutHardwareCall, tlutRowsCall, samplingCall}
+use Rattle.rules.specs.Picture.{picture, texel, rowStart}
 use Rattle.rules.specs.Key.{key, keptCount}
-use Rattle.rules.specs.Lister.{listing}
+use Rattle.rules.specs.Lister.{lineTo, listing}
 use Rattle.rules.specs.Replay.{fresh as start, carried, inFile, replayed, lines, recordsIn, replayText}
 
 -- two lists of numbers that have to be the same
@@ -208,6 +208,10 @@ abbrev byRowsCall : ℕ → ℕ → Outcome
 byRowsCall image rows =
     tlutRowsCall fresh freshWritten freshReasons (counting 4) (tile 0 0 0 256 0 0) image 2 rows 0 ordinary 0
 
+-- a tile load of so many rows of no words
+abbrev noWords : ℕ → Outcome
+noWords rows = tileCall fresh freshWritten freshReasons [] (tile 0 2 0 0 0 0) 2 rows 0 0 ordinary 0
+
 -- a list's length, its first and its last number
 abbrev endsOf : List ℕ → List ℕ
 endsOf l = length l ∷ getD l 0 0 ∷ getD l (length l - 1) 0 ∷ []
@@ -318,6 +322,16 @@ table =
     ∷ (map (λ image. byHardwareCall image 1 .refusal) (0 ∷ 1 ∷ 3 ∷ 4 ∷ []) gives 4 ∷ 0 ∷ 0 ∷ 4 ∷ [])
     ∷ (map (λ rows. byRowsCall 2 rows .refusal) (0 ∷ 1 ∷ 2 ∷ 1025 ∷ []) gives 4 ∷ 0 ∷ 0 ∷ 4 ∷ [])
     ∷ (map (λ image. byRowsCall image 1 .refusal) (0 ∷ 3 ∷ 4 ∷ []) gives 0 ∷ 0 ∷ 4 ∷ [])
+    -- "Raise width and height to 4,096": each is taken to there, and refused past it
+    ∷ (map (λ side. samplingCall (tile 4 1 2 0 side 1) 0 .refusal) (1024 ∷ 1025 ∷ 4096 ∷ 4097 ∷ []) gives 0 ∷ 0 ∷ 0 ∷ 2 ∷ [])
+    ∷ (map (λ side. samplingCall (tile 4 1 2 0 1 side) 0 .refusal) (1024 ∷ 1025 ∷ 4096 ∷ 4097 ∷ []) gives 0 ∷ 0 ∷ 0 ∷ 2 ∷ [])
+    -- "A lister from before this change refuses the new ones with 2"
+    ∷ (map (λ side. lineTo 1024 (tile 4 1 2 0 side 0) 0 fresh .refusal) (1024 ∷ 1025 ∷ 4096 ∷ []) gives 0 ∷ 2 ∷ 2 ∷ [])
+    ∷ (map (λ side. lineTo 1024 (tile 4 1 2 0 0 side) 0 fresh .refusal) (1024 ∷ 1025 ∷ 4096 ∷ []) gives 0 ∷ 2 ∷ 2 ∷ [])
+    -- a tall picture's flag goes by 256, and its rows repeat every 256, as before; a tile load takes 1,024 rows, as before
+    ∷ (flags (flag (tile 4 1 1 0 0 4096) 0) (flag (tile 4 1 2 0 0 4096) 0) (flag (tile 4 1 1 0 0 4096) 2) gives 1 ∷ 0 ∷ 0 ∷ [])
+    ∷ (map (rowStart (tile 4 1 2 0 1 4096)) (1 ∷ 257 ∷ 4095 ∷ []) gives 16 ∷ 16 ∷ 4080 ∷ [])
+    ∷ (map (λ rows. noWords rows .refusal) (1024 ∷ 1025 ∷ []) gives 0 ∷ 4 ∷ [])
     ∷ []
 
 -- the two lists of every case are the same
