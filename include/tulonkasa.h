@@ -273,7 +273,7 @@ tk_sampling_answer tk_sampling(TK_TILE_PARAMETERS);
  * The calls named .._observed also write the trail: each address that was read, in order, as two bytes, high byte first. An
  * odd last byte of its buffer is left unused. */
 
-/* The plain picture: width by height texels. */
+/* The plain picture: width by height texels. The largest has 64 MiB, and the longest trail 128 MiB. */
 tk_answer tk_sample_tile(const uint8_t *bank, size_t bank_length, TK_TILE_PARAMETERS, uint32_t lane, uint8_t *picture,
                          size_t picture_length);
 
