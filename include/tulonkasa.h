@@ -46,7 +46,7 @@ extern "C" {
 #define TK_SOURCE_MOST 65536   /* a source, of a load or of a decoding, has at most this many bytes */
 #define TK_LOADS_MOST 65535    /* so many loads have numbers, 1 to this */
 #define TK_REASON_MOST 255     /* a rejected load has a reason from 1 to this */
-#define TK_SIDE_MOST 1024      /* width and height, of a tile or a picture, are at most this */
+#define TK_SIDE_MOST 4096      /* width and height, of a tile or a picture, are at most this */
 #define TK_TEXEL_READS_MOST 4  /* a texel reads at most this many bytes of the bank or of a source */
 #define TK_RECORD_BYTES 48     /* a record of a capture */
 #define TK_ENTRY_BYTES 4117    /* an entry of a split: 4 and 16 bytes, the lane's byte, and a key */
@@ -274,7 +274,7 @@ tk_sampling_answer tk_sampling(TK_TILE_PARAMETERS);
  * The calls named .._observed also write the trail: each address that was read, in order, as two bytes, high byte first. An
  * odd last byte of its buffer is left unused. */
 
-/* The plain picture: width by height texels. */
+/* The plain picture: width by height texels. The largest has 64 MiB, and the longest trail 128 MiB. */
 tk_answer tk_sample_tile(const uint8_t *bank, size_t bank_length, TK_TILE_PARAMETERS, uint32_t lane, uint8_t *picture,
                          size_t picture_length);
 

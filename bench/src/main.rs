@@ -1,7 +1,8 @@
 //! The original Rust and the archive side by side, in one process and on the same inputs, as Markdown tables. Where the original has
 //! no such call, plain Rust stands for it.
 //!
-//!     bench ROUNDS
+//!     bench ROUNDS            # all tables but the next
+//!     bench ROUNDS growth     # how pictures, trails, keys and files grow, up to the longest sides
 mod timing;
 
 use original::calls::{self, Load, Memory, Picture};
@@ -31,24 +32,36 @@ struct Bench {
 }
 
 fn main() -> ExitCode {
-    let Some(Ok(rounds)) = std::env::args().nth(1).map(|rounds| rounds.parse()) else {
-        eprintln!("usage: bench ROUNDS");
+    let words: Vec<_> = std::env::args().skip(1).collect();
+    let (growth, rounds) = match &words[..] {
+        [rounds] => (false, rounds.parse()),
+        [rounds, growth] if growth == "growth" => (true, rounds.parse()),
+        _ => (false, "".parse()),
+    };
+    let Ok(rounds) = rounds else {
+        eprintln!("usage: bench ROUNDS [growth]");
         return ExitCode::from(2);
     };
+    let texels = if growth { (SIDE_MOST * SIDE_MOST) as usize } else { LOOKUP_TEXELS };
     let mut bench = Bench {
         rounds,
         bank: bytes(4096).try_into().expect("4,096 bytes"),
-        picture: vec![0; 4 * LOOKUP_TEXELS],
-        trail: vec![0; 8 * LOOKUP_TEXELS],
+        picture: vec![0; 4 * texels],
+        trail: vec![0; 8 * texels],
         above: Vec::new(),
     };
+    if growth {
+        bench.growth();
+        return ExitCode::SUCCESS;
+    }
     bench.pictures();
     bench.sizes();
     bench.lookups();
     bench.linear();
     bench.loads();
     bench.others();
-    bench.files();
+    println!();
+    bench.files(&[64, 1024]);
     bench.splits();
     bench.conclude();
     ExitCode::SUCCESS
@@ -152,6 +165,26 @@ impl Bench {
                 println!("| {side} by {side} | {mode} | ({fmt},{siz}) | {row} |");
             }
         }
+    }
+
+    /// Squares and a strip, of an even line, so that a key is that of the plain picture.
+    fn growth(&mut self) {
+        println!("Pictures alone, with their trails, and keys, by the count of texels. Nanoseconds a call.\n");
+        println!(
+            "| texels | mode | pair | Rust | archive | ratio | Rust, trail | archive, trail | ratio | Rust, key | archive, key | ratio |"
+        );
+        println!("|---|---|---|---|---|---|---|---|---|---|---|---|");
+        for (mode, (fmt, siz)) in [(0, (0, 2)), (0, (0, 3)), (0, (4, 1)), (2, (2, 1))] {
+            for (width, height) in [(64, 64), (256, 256), (1024, 1024), (SIDE_MOST, SIDE_MOST), (64, SIDE_MOST)] {
+                let tile = Tile { width, height, ..square(fmt, siz, mode) };
+                let alone = cells(self.race_picture(&tile, Picture::Plain));
+                let observed = cells(self.race_observed(&tile, Picture::Plain));
+                let key = cells(self.race_key(&tile));
+                println!("| {width} by {height} | {mode} | ({fmt},{siz}) | {alone} | {observed} | {key} |");
+            }
+        }
+        println!();
+        self.files(&[64, 256, 1024, SIDE_MOST]);
     }
 
     fn lookups(&mut self) {
@@ -440,29 +473,29 @@ impl Bench {
     }
 
     fn key(&mut self, name: &str, tile: &Tile) {
+        let pair = self.race_key(tile);
+        self.row(format!("key, {name}"), pair);
+    }
+
+    fn race_key(&self, tile: &Tile) -> Pair {
         let (old, mode, bank) = (descriptor(tile), tile.mode as u8, self.bank);
         let mut key = [0; 4096];
-        let pair = race(
+        race(
             self.rounds,
             || used(calls::key(black_box(&bank), black_box(&old), mode, 1)),
             || {
                 black_box(slices::key(black_box(&bank), black_box(tile), 1, black_box(&mut key))).expect("accepted");
             },
-        );
-        self.row(format!("key, {name}"), pair);
+        )
     }
 
     /// The original has no files. The second writer and reader stand for it, and a copy of the texels alone.
-    fn files(&self) {
-        println!("\nPAM files, nanoseconds a file, beside the plain Rust of `oracle/pam` and a copy of the texels alone. No goal.\n");
+    fn files(&self, sides: &[u32]) {
+        println!("PAM files, nanoseconds a file, beside the plain Rust of `oracle/pam` and a copy of the texels alone. No goal.\n");
         println!("| call | texels | Rust | archive | ratio | copy | archive | ratio |");
         println!("|---|---|---|---|---|---|---|---|");
-        for side in [64, SIDE_MOST] {
-            self.write_row(side);
-        }
-        for side in [64, SIDE_MOST] {
-            self.read_row(side);
-        }
+        sides.iter().for_each(|&side| self.write_row(side));
+        sides.iter().for_each(|&side| self.read_row(side));
     }
 
     fn write_row(&self, side: u32) {

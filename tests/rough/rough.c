@@ -7,7 +7,8 @@
  * outside it unseen. After each call its refusal, its counts and a load's number are held against what documents 01 and 02 say,
  * worked out here on their own, its other answers against 0 where it refused, and every byte that must not have changed against a
  * copy; so are the texels that a source is decoded to. Of a file with changed bytes only the numbers that reading can refuse are known.
- * 9 is given by no call; in the end it fails if another refusal never came up, or one of decoding a source. */
+ * 9 is given by no call; in the end it fails if another refusal never came up, or one of decoding a source, or if an entry never had
+ * the largest picture. */
 
 #include <stdbool.h>
 #include <stdio.h>
@@ -381,16 +382,20 @@ static uint32_t expected_number(void) {
 
 /* ---- Making a call -------------------------------------------------------------------------------------------------- */
 
+/* Longer buffers take long to compare, and are rare. */
+enum { SHORT_ROOM = 1 << 22 };
+
 /* A length: mostly the right one, else beside it, that of another buffer that is lent with it, or any up to the room. */
 static size_t some_length(int i, size_t right) {
     static const size_t others[] = {TK_MAP_BYTES, TK_REASON_BYTES, TK_WRITTEN_BYTES};
+    size_t room = buffers[i].room;
     if (!one_in(16)) return right;
     switch (up_to(5)) {
         case 0: return 0;
         case 1: return right == 0 ? 1 : right - 1;
         case 2: return right + 1;
         case 3: return others[up_to(2)];
-        default: return up_to((uint32_t)buffers[i].room);
+        default: return up_to((uint32_t)(room < SHORT_ROOM || one_in(64) ? room : SHORT_ROOM));
     }
 }
 
@@ -398,9 +403,23 @@ static void choose_tile(void) {
     static const uint32_t most[12] = {7, 3, 15, 3, 3, 3, 15, 15, 511, 511, 40, 40};
     uint32_t numbers[12];
     for (int i = 0; i < 12; i++) numbers[i] = one_in(8) ? most[i] : up_to(most[i]);
-    if (one_in(64)) numbers[10] = up_to(TK_SIDE_MOST);
-    if (one_in(64)) numbers[11] = up_to(TK_SIDE_MOST);
+    if (one_in(64)) numbers[10] = up_to(one_in(4) ? TK_SIDE_MOST : 1024);
+    if (one_in(64)) numbers[11] = up_to(one_in(4) ? TK_SIDE_MOST : 1024);
     memcpy(&now.tile, numbers, sizeof numbers);
+}
+
+/* Whether an entry has had the largest picture. */
+static bool had_largest[ENTRIES];
+
+static bool wants_largest(int entry) {
+    return (entries[entry].takes & (TAKES_TILE | TAKES_SIDES | TAKES_HEADER)) != 0 && !had_largest[entry];
+}
+
+/* The largest picture, of texels that read the most. */
+static void choose_largest(void) {
+    now.tile.fmt = now.tile.mode = 0;
+    now.tile.siz = 3;
+    now.tile.width = now.tile.height = TK_SIDE_MOST;
 }
 
 static void choose_load(void) {
@@ -710,7 +729,9 @@ static void choose_call(void) {
     choose_reason();
     choose_last();
     now.lane = up_to(3);
-    if (one_in(4)) {
+    if (wants_largest(now.entry)) {
+        choose_largest();
+    } else if (one_in(4)) {
         break_all();
     } else {
         while (one_in(3)) break_one();
@@ -1075,6 +1096,7 @@ int main(int argc, char **argv) {
         make_call();
         check_call(done % 65536 == 0);
         answered[now.entry][answer.refusal]++;
+        had_largest[now.entry] |= answer.refusal == 0 && now.tile.width == TK_SIDE_MOST && now.tile.height == TK_SIDE_MOST;
         done++;
     }
     printf("rough handling: %llu calls, seed %s, refused by number:", (unsigned long long)done, argv[2]);
@@ -1092,6 +1114,11 @@ int main(int argc, char **argv) {
     for (size_t i = 0; done >= MANY_CALLS && i < sizeof of_decoding / sizeof *of_decoding; i++) {
         if (answered[DECODE_LINEAR][of_decoding[i]] > 0) continue;
         fprintf(stderr, "rough: %d never came up of %s\n", of_decoding[i], entry_names[DECODE_LINEAR]);
+        return 1;
+    }
+    for (int entry = 0; done >= MANY_CALLS && entry < ENTRIES; entry++) {
+        if (!wants_largest(entry)) continue;
+        fprintf(stderr, "rough: %s never had the largest picture\n", entry_names[entry]);
         return 1;
     }
     return 0;

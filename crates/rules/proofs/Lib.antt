@@ -32,3 +32,4 @@ pub mod PamWorked
 pub mod Splits
 pub mod SplitWorked
 pub mod Nine
+pub mod Sides

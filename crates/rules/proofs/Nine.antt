@@ -11,7 +11,7 @@ use Rattle.rules.specs.Refusal.{Test, Outcome, call, callOr}
 use Rattle.rules.specs.Calls.{blockCall, tileCall, tlutHardwareCall, tlutRowsCall, samplingCall, reachCall, hasLoadCall}
 use Rattle.rules.specs.Calls.{rejectionCall, laneCall, pictureCall, observedCall, sampleTileCall, sampleTileObservedCall}
 use Rattle.rules.specs.Calls.{samplingLookupCall, samplingLookupObservedCall, linearCall, keyCall}
-use Rattle.rules.specs.Lister.{lineOf, numberCall, listCall}
+use Rattle.rules.specs.Lister.{lineTo, lineOf, numberCall, listCall}
 use Rattle.rules.specs.Replay.{asksKey, recordTests, Carried, Piece, tested, outcome, replayCall, runCall}
 use Rattle.rules.specs.Pam.{pamWriteCall, pamReadCall}
 use Rattle.rules.specs.Split.{splitCall}
@@ -65,7 +65,7 @@ module _ (bank map reasons src : List ℕ) (t : Tile) (image dxt words rows stri
       × Nineless (pamReadCall file picture)
       × Nineless (splitCall count entries out)
   unfolding call callOr blockCall tileCall tlutHardwareCall tlutRowsCall samplingCall reachCall hasLoadCall rejectionCall laneCall
-      pictureCall observedCall linearCall keyCall lineOf numberCall listCall tested outcome replayCall runCall pamWriteCall pamReadCall
+      pictureCall observedCall linearCall keyCall lineTo numberCall listCall tested outcome replayCall runCall pamWriteCall pamReadCall
       splitCall
   no-nine = (
     nineless _ _ _ _ _ refl,

@@ -8,7 +8,7 @@ use lib.ListN.{length}
 use Rattle.rules.specs.Base.{one, over}
 use Rattle.rules.specs.Refusal.{Test, _if_, Outcome, call, callOr}
 use Rattle.rules.specs.Tile.{Tile, bankSize, mapSize, writtenSize, reasonsSize, laneMapSize}
-use Rattle.rules.specs.Tile.{loadFieldsOutside, linearFieldsOutside, tileOutside, modeOutside, laneOutside}
+use Rattle.rules.specs.Tile.{sideLimit, loadFieldsOutside, linearFieldsOutside, tileOutsideTo, modeOutside, laneOutside}
 use Rattle.rules.specs.Texdec.{accepted}
 use Rattle.rules.specs.Sampling.{flag, extentWidth, extentHeight, lookupTexels}
 use Rattle.rules.specs.Load.{Store, loadTile, blockStores, tileStores, hardwareStores, rowStores, stored, written, following, madeUp}
@@ -26,9 +26,12 @@ use Rattle.rules.specs.Key.{key, keptCount}
 abbrev pub notBytes : ℕ → List ℕ → Bool
 notBytes n lent = not (eqb (length lent) n)
 
--- "a tile field is outside its range"
+-- "a tile field is outside its range", where the sides go up to a limit, and to this one
+abbrev pub badTileTo : ℕ → Tile → Test
+badTileTo limit t = 2 if tileOutsideTo limit t
+
 abbrev pub badTile : Tile → Test
-badTile t = 2 if tileOutside t
+badTile t = badTileTo sideLimit t
 
 -- "mode or lane is above 3"
 abbrev pub badMode : ℕ → Test
@@ -153,8 +156,11 @@ unfoldable pub laneCall : List ℕ → List ℕ → Outcome
 laneCall bank map = call (laneTests bank map) [] (laneMap bank ∷ []) (map ∷ [])
 
 -- Pictures. The tests before the buffers', and then the buffers' own.
+abbrev pub pairTestsTo : ℕ → Tile → ℕ → ℕ → List Test
+pairTestsTo limit t mode lane = badTileTo limit t ∷ badMode mode ∷ badLane lane ∷ badPair t mode ∷ []
+
 abbrev pub pairTests : Tile → ℕ → ℕ → List Test
-pairTests t mode lane = badTile t ∷ badMode mode ∷ badLane lane ∷ badPair t mode ∷ []
+pairTests t mode lane = pairTestsTo sideLimit t mode lane
 
 -- "the picture buffer is shorter than 4 bytes a texel"
 abbrev pub shortPicture : ℕ → List ℕ → Test

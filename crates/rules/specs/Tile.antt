@@ -96,13 +96,17 @@ loadTileFrom fmt siz line tmem-addr = tileFrom fmt siz 0 0 0 0 0 line tmem-addr 
 abbrev pub linearTileFrom : ℕ → ℕ → ℕ → ℕ → ℕ → Tile
 linearTileFrom fmt siz palette width height = tileFrom fmt siz palette 0 0 0 0 0 0 width height
 
--- width and height go up to this
+-- document 02's item 12: "Raise width and height to 4,096." No other line of the crates says how long a side may be, but the code's
+-- own constant.
 abbrev pub sideLimit : ℕ
-sideLimit = 1024
+sideLimit = 4096
 
--- a side of a picture is above it
+-- a side of a picture is above a limit, and above this one
+abbrev pub sidesAbove : ℕ → ℕ → ℕ → Bool
+sidesAbove limit width height = ltb limit width || ltb limit height
+
 abbrev pub sidesOutside : ℕ → ℕ → Bool
-sidesOutside width height = ltb sideLimit width || ltb sideLimit height
+sidesOutside width height = sidesAbove sideLimit width height
 
 -- "Of the tile a load takes fmt, siz, line and tmem_addr alone": one of them is outside its range
 abbrev pub loadFieldsOutside : Tile → Bool
@@ -113,17 +117,20 @@ abbrev pub linearFieldsOutside : Tile → Bool
 linearFieldsOutside t = ltb 7 (t .fmt) || ltb 3 (t .siz) || ltb 15 (t .palette) || sidesOutside (t .width) (t .height)
 
 -- "Tile: fmt 0..7, siz 0..3, palette 0..15, cms and cmt 0..3, masks and maskt 0..15, line and tmem_addr 0..511, width
--- and height 0..1,024": a field is outside its range
-abbrev pub tileOutside : Tile → Bool
-tileOutside t =
+-- and height 0..": a field is outside its range, where the sides go up to a limit
+abbrev pub tileOutsideTo : ℕ → Tile → Bool
+tileOutsideTo limit t =
     loadFieldsOutside t
     || ltb 15 (t .palette)
     || ltb 3 (t .cms)
     || ltb 3 (t .cmt)
     || ltb 15 (t .masks)
     || ltb 15 (t .maskt)
-    || ltb sideLimit (t .width)
-    || ltb sideLimit (t .height)
+    || ltb limit (t .width)
+    || ltb limit (t .height)
+
+abbrev pub tileOutside : Tile → Bool
+tileOutside t = tileOutsideTo sideLimit t
 
 -- every field is inside its range
 pub record InRange (t : Tile) : Type 0 where

@@ -13,10 +13,10 @@ use Rattle.rules.specs.Texdec.{rgba16Texel, ia4Texel, ia8Texel}
 use Rattle.rules.specs.Sampling.{flag}
 use Rattle.rules.specs.Load.{Store, loadTile, stored, blockStores, tlutStores, Reason, ordinary, rejected, madeUp}
 use Rattle.rules.specs.Reach.{hasLoad, paletteOrder, rejection}
-use Rattle.rules.specs.Calls.{blockCall, tlutHardwareCall, tlutRowsCall, linearCall}
-use Rattle.rules.specs.Picture.{picture, texel}
+use Rattle.rules.specs.Calls.{blockCall, tileCall, tlutHardwareCall, tlutRowsCall, linearCall, samplingCall}
+use Rattle.rules.specs.Picture.{picture, texel, rowStart}
 use Rattle.rules.specs.Key.{key, keptCount}
-use Rattle.rules.specs.Lister.{listing}
+use Rattle.rules.specs.Lister.{lineTo, listing}
 use Rattle.rules.specs.Replay.{fresh as start, carried, inFile, replayed, lines, recordsIn, replayText}
 
 -- two lists of numbers that have to be the same
@@ -219,6 +219,10 @@ abbrev linearRefusal : ℕ → ℕ → ℕ → ℕ → ℕ → ℕ → ℕ → �
 linearRefusal fmt siz palette width height stride size room =
     linearCall (replicate size 0) (linearTileFrom fmt siz palette width height) stride (replicate room 9) .refusal
 
+-- a tile load of so many rows of no words
+abbrev noWords : ℕ → Outcome
+noWords rows = tileCall fresh freshWritten freshReasons [] (tile 0 2 0 0 0 0) 2 rows 0 0 ordinary 0
+
 -- a list's length, its first and its last number
 abbrev endsOf : List ℕ → List ℕ
 endsOf l = length l ∷ getD l 0 0 ∷ getD l (length l - 1) 0 ∷ []
@@ -352,13 +356,23 @@ table =
     ∷ (linearly 4 1 0 0 5 1 (1 ∷ []) 1 gives 0 ∷ 0 ∷ 9 ∷ [])
     -- refused: 2, 4, 5, 6 in this order, with a count of 0 and the picture as it was; (2,3) and an unknown pair are 5
     ∷ (linearly 2 3 0 1 1 0 (1 ∷ 2 ∷ []) 4 gives 5 ∷ 0 ∷ 9 ∷ 9 ∷ 9 ∷ 9 ∷ [])
-    ∷ (linearRefusal 1 4 16 1025 1025 65536 65537 0 ∷ linearRefusal 1 3 15 1024 1024 65536 65537 0 ∷ [] gives 2 ∷ 4 ∷ [])
+    ∷ (linearRefusal 1 4 16 4097 4097 65536 65537 0 ∷ linearRefusal 1 3 15 4096 4096 65536 65537 0 ∷ [] gives 2 ∷ 4 ∷ [])
     ∷ (linearRefusal 2 3 0 1 1 65535 65536 3 ∷ linearRefusal 0 3 0 1 1 65535 65536 3 ∷ [] gives 5 ∷ 6 ∷ [])
     ∷ (map (λ palette. linearRefusal 4 1 palette 0 0 0 0 0) (15 ∷ 16 ∷ []) gives 0 ∷ 2 ∷ [])
-    ∷ (map (λ side. linearRefusal 4 1 0 side 0 0 0 0) (1024 ∷ 1025 ∷ []) gives 0 ∷ 2 ∷ [])
-    ∷ (map (λ side. linearRefusal 4 1 0 0 side 0 0 0) (1024 ∷ 1025 ∷ []) gives 0 ∷ 2 ∷ [])
+    ∷ (map (λ side. linearRefusal 4 1 0 side 0 0 0 0) (4096 ∷ 4097 ∷ []) gives 0 ∷ 2 ∷ [])
+    ∷ (map (λ side. linearRefusal 4 1 0 0 side 0 0 0) (4096 ∷ 4097 ∷ []) gives 0 ∷ 2 ∷ [])
     ∷ (map (λ stride. linearRefusal 4 1 0 0 0 stride 0 0) (65535 ∷ 65536 ∷ []) gives 0 ∷ 4 ∷ [])
     ∷ (map (λ size. linearRefusal 4 1 0 0 0 0 size 0) (65536 ∷ 65537 ∷ []) gives 0 ∷ 4 ∷ [])
+    -- "Raise width and height to 4,096": each is taken to there, and refused past it
+    ∷ (map (λ side. samplingCall (tile 4 1 2 0 side 1) 0 .refusal) (1024 ∷ 1025 ∷ 4096 ∷ 4097 ∷ []) gives 0 ∷ 0 ∷ 0 ∷ 2 ∷ [])
+    ∷ (map (λ side. samplingCall (tile 4 1 2 0 1 side) 0 .refusal) (1024 ∷ 1025 ∷ 4096 ∷ 4097 ∷ []) gives 0 ∷ 0 ∷ 0 ∷ 2 ∷ [])
+    -- "A lister from before this change refuses the new ones with 2"
+    ∷ (map (λ side. lineTo 1024 (tile 4 1 2 0 side 0) 0 fresh .refusal) (1024 ∷ 1025 ∷ 4096 ∷ []) gives 0 ∷ 2 ∷ 2 ∷ [])
+    ∷ (map (λ side. lineTo 1024 (tile 4 1 2 0 0 side) 0 fresh .refusal) (1024 ∷ 1025 ∷ 4096 ∷ []) gives 0 ∷ 2 ∷ 2 ∷ [])
+    -- a tall picture's flag goes by 256, and its rows repeat every 256, as before; a tile load takes 1,024 rows, as before
+    ∷ (flags (flag (tile 4 1 1 0 0 4096) 0) (flag (tile 4 1 2 0 0 4096) 0) (flag (tile 4 1 1 0 0 4096) 2) gives 1 ∷ 0 ∷ 0 ∷ [])
+    ∷ (map (rowStart (tile 4 1 2 0 1 4096)) (1 ∷ 257 ∷ 4095 ∷ []) gives 16 ∷ 16 ∷ 4080 ∷ [])
+    ∷ (map (λ rows. noWords rows .refusal) (1024 ∷ 1025 ∷ []) gives 0 ∷ 4 ∷ [])
     ∷ []
 
 -- the two lists of every case are the same

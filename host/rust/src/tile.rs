@@ -2,7 +2,7 @@
 use crate::{slices, AddressMap, Refusal};
 
 /// The width and height of a tile or a picture are at most this.
-pub const SIDE_MOST: u32 = 1024;
+pub const SIDE_MOST: u32 = 4096;
 
 /// The bytes of a tile and its mode as a capture's record has them.
 pub const TILE_BYTES: usize = 16;

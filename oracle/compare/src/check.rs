@@ -9,13 +9,17 @@ use crate::random::Random;
 use crate::replay;
 use original::calls::{self, Bytes, Counted, Load, Map, Memory, Picture, Reach};
 use std::ops::AddAssign;
-use tulonkasa::{slices, Loaded, Refusal, Sampling, Tile, LOOKUP_TEXELS};
+use tulonkasa::{slices, Loaded, Refusal, Sampling, Tile, LOOKUP_TEXELS, SIDE_MOST};
 
 /// What a buffer that is lent to be written holds before.
 pub const BEFORE: u8 = 0xa5;
 
 /// So many bytes behind a lent picture or trail are looked at too.
 const FENCE: usize = 64;
+
+/// The texels of the largest picture, and the bytes of the bank that a texel reads at most.
+const TEXELS_MOST: usize = (SIDE_MOST * SIDE_MOST) as usize;
+const READS_MOST: usize = 4;
 
 /// How much was compared.
 #[derive(Clone, Copy, Default)]
@@ -59,8 +63,8 @@ impl Workspace {
         Self {
             bank: Box::new([0; 4096]),
             source: vec![0; 65536],
-            picture: vec![BEFORE; (4 << 20) + 2 * FENCE],
-            trail: vec![BEFORE; (8 << 20) + 2 * FENCE],
+            picture: vec![BEFORE; 4 * TEXELS_MOST + 2 * FENCE],
+            trail: vec![BEFORE; 2 * READS_MOST * TEXELS_MOST + 2 * FENCE],
             expected_trail: Vec::new(),
             reach: Reach::default(),
             asked: Memory::fresh(),

@@ -5,7 +5,7 @@ use crate::case::{Call, Case, Fill, Pieces};
 use crate::input::Input;
 use crate::linear;
 use original::calls::Picture;
-use tulonkasa::Tile;
+use tulonkasa::{Tile, SIDE_MOST};
 
 /// SplitMix64.
 pub struct Random(u64);
@@ -49,10 +49,11 @@ impl Random {
         }
     }
 
-    /// A tile of a picture of at most so many texels.
+    /// A tile of a picture of at most so many texels. A quarter of the tiles may have the longest sides.
     fn tile(&mut self, texels: u32) -> Tile {
-        let width = self.near(1024);
-        let height = self.near(1024);
+        let most = self.pick(&[1024, 1024, 1024, SIDE_MOST]);
+        let width = self.near(most);
+        let height = self.near(most);
         Tile {
             fmt: self.pick(&[0, 0, 1, 2, 2, 3, 3, 4, 4, 5, 6, 7]),
             siz: self.to(3),
@@ -84,7 +85,11 @@ impl Random {
 
     /// A case of a call.
     fn case(&mut self, call: Call) -> Case {
-        let texels = if self.to(255) == 0 { 1 << 20 } else { 1 << 14 };
+        let texels = match self.to(4095) {
+            0 => SIDE_MOST * SIDE_MOST,
+            1..=16 => 1 << 20,
+            _ => 1 << 14,
+        };
         let mut case = Case::new(call, self.tile(texels));
         if call == Call::RoundTrip {
             case.tile = self.fitting_tile(case.tile.palette);

@@ -14,22 +14,22 @@ use tulonkasa::{Tile, SIDE_MOST};
 /// Width, height, line, word address.
 const SHAPES: [[u32; 4]; 14] = [
     [0, 0, 0, 0],
-    [0, 1024, 1, 0],
-    [1024, 0, 1, 0],
+    [0, SIDE_MOST, 1, 0],
+    [SIDE_MOST, 0, 1, 0],
     [1, 1, 0, 0],
     [1, 1, 511, 511],
     [1, 2, 1, 255],
     [2, 1, 1, 256],
     [3, 3, 1, 511],
     [16, 4, 8, 128],
-    [1024, 2, 511, 511],
-    [2, 1024, 511, 1],
+    [SIDE_MOST, 2, 511, 511],
+    [2, SIDE_MOST, 511, 1],
     [1, 257, 1, 0],
     [5, 258, 3, 300],
     [64, 64, 16, 0],
 ];
 
-/// Largest pictures, one for each of the byte counts that a texel takes.
+/// Large and largest pictures, one for each of the byte counts that a texel takes.
 const LARGEST: [[u32; 3]; 4] = [[0, 3, 0], [0, 2, 1], [4, 0, 0], [2, 1, 2]];
 
 /// cms, cmt, masks, maskt: no repeating, repeating inside the size, at it, past it, and past it but clamped.
@@ -156,8 +156,13 @@ fn tiles(cases: &mut Vec<Case>) {
         }
     }
     for [fmt, siz, mode] in LARGEST {
-        let tile = Tile { fmt, siz, mode, width: 1024, height: 1024, line: 257, tmem_addr: 77, ..Tile::default() };
-        cases.extend(PICTURES[..2].iter().map(|&call| Case::new(call, tile)));
+        for side in [1024, SIDE_MOST] {
+            let tile = Tile { fmt, siz, mode, width: side, height: side, line: 257, tmem_addr: 77, ..Tile::default() };
+            cases.extend(PICTURES[..2].iter().map(|&call| Case::new(call, tile)));
+            // Of an even line the key is that of the plain picture.
+            let tile = Tile { line: 258, ..tile };
+            cases.extend([Call::Sampling, Call::Reach, Call::Key].map(|call| Case::new(call, tile)));
+        }
     }
 }
 
@@ -174,19 +179,20 @@ fn repeating_tiles(cases: &mut Vec<Case>) {
     }
 }
 
-/// Tiles of a format, size and mode, in every way to clamp and mirror: every mask with sizes about what it repeats, across, down and
-/// both; and the walls.
+/// Tiles of a format, size and mode, in every way to clamp and mirror: every mask with sizes about what it repeats, across, down and,
+/// up to 1,024 texels a side, both; and the walls.
 fn repeating([fmt, siz, mode]: [u32; 3]) -> Vec<Tile> {
     let small = Tile { fmt, siz, mode, palette: 9, line: 2, tmem_addr: 300, width: 3, height: 5, ..Tile::default() };
     let mut tiles = Vec::new();
     for mask in 0..16 {
-        for size in sizes(mask) {
-            for cm in 0..4 {
-                let across = Tile { cms: cm, masks: mask, width: size, ..small };
-                let down = Tile { cmt: cm, maskt: mask, height: size, ..small };
-                let both = Tile { cms: cm, masks: mask, width: size, ..down };
-                tiles.extend([across, down, both]);
+        for cm in 0..4 {
+            let across = Tile { cms: cm, masks: mask, ..small };
+            let down = Tile { cmt: cm, maskt: mask, ..small };
+            let both = Tile { cms: cm, masks: mask, ..down };
+            for size in sizes(mask, SIDE_MOST) {
+                tiles.extend([Tile { width: size, ..across }, Tile { height: size, ..down }]);
             }
+            tiles.extend(sizes(mask, 1024).into_iter().map(|size| Tile { width: size, height: size, ..both }));
         }
     }
     for [width, height, line, masks, maskt] in WALLS {
@@ -199,9 +205,9 @@ fn repeating([fmt, siz, mode]: [u32; 3]) -> Vec<Tile> {
 }
 
 /// Sizes about 2^mask: below, equal, one above, and several times, each up to the most; and none and one.
-fn sizes(mask: u32) -> BTreeSet<u32> {
+fn sizes(mask: u32, most: u32) -> BTreeSet<u32> {
     let period = 1 << mask;
-    [0, 1, period - 1, period, period + 1, 3 * period + 1].map(|size| size.min(SIDE_MOST)).into()
+    [0, 1, period - 1, period, period + 1, 3 * period + 1].map(|size| size.min(most)).into()
 }
 
 /// Picture and trail: one byte short, exactly full, and longer by an odd and an even number.
@@ -449,8 +455,8 @@ const MOST: [(usize, u32); 20] = [
     (MASKT, 15),
     (LINE, 511),
     (TMEM_ADDR, 511),
-    (WIDTH, 1024),
-    (HEIGHT, 1024),
+    (WIDTH, SIDE_MOST),
+    (HEIGHT, SIDE_MOST),
     (IMAGE_SIZ, 3),
     (DXT, 4095),
     (WORDS, 512),

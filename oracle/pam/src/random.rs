@@ -36,7 +36,8 @@ impl Random {
 
     fn write(&mut self) -> Input {
         let (width, mut height) = (self.pick(&SIDES), self.pick(&SIDES));
-        if width.saturating_mul(height) > MANY && self.to(255) != 0 {
+        let rare = if width.saturating_mul(height) > 1 << 20 { 8191 } else { 255 };
+        if width.saturating_mul(height) > MANY && self.to(rare) != 0 {
             height = 1;
         }
         let texels = if width.max(height) > SIDE_MOST { 64 } else { texel_bytes(width, height) };
