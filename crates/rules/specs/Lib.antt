@@ -8,6 +8,7 @@ pub mod Reading
 pub mod Picture
 pub mod Reach
 pub mod Key
+pub mod Check
 pub mod Refusal
 pub mod Calls
 pub mod Lister
