@@ -34,7 +34,7 @@ struct Work {
 }
 
 /// The kinds of comparison, as they are printed.
-const KINDS: [&str; 21] = [
+const KINDS: [&str; 22] = [
     "block loads",
     "tile loads",
     "TLUT loads",
@@ -53,6 +53,7 @@ const KINDS: [&str; 21] = [
     "rejections",
     "lane checks",
     "keys",
+    "checks of keys",
     "calls in a row",
     "replayed records",
     "replayed by program",
@@ -62,7 +63,7 @@ fn kind(input: &Input) -> usize {
     use original::calls::Picture::{Lookup, Plain};
     let case = match input {
         Input::Case(case) => case,
-        Input::Run(run) => return 18 + run.by as usize,
+        Input::Run(run) => return 19 + run.by as usize,
     };
     let rejected = usize::from(case.reason.is_some());
     match case.call {
@@ -78,6 +79,7 @@ fn kind(input: &Input) -> usize {
         Call::Rejection => 15,
         Call::PaletteNonreplicated => 16,
         Call::Key => 17,
+        Call::CheckKey => 18,
     }
 }
 
@@ -156,10 +158,11 @@ fn print(works: &[Work], seed: u64, took: Duration) {
 }
 
 fn words(amount: &Amount) -> String {
-    let Amount { calls, refused, reasons, stores, made_up, texels, reads } = *amount;
+    let Amount { calls, refused, reasons, wrong, stores, made_up, texels, reads } = *amount;
     let parts = [
         (refused, "of them refused"),
         (reasons, "reasons answered"),
+        (wrong, "wrong keys"),
         (stores, "stores"),
         (made_up, "made up"),
         (texels, "texels"),

@@ -1,7 +1,7 @@
 //! Random numbers by a seed, and random cases and runs: near the limits as often as not.
 use crate::capture::place::*;
 use crate::capture::{By, Companion, Record, Run, BLOCK, END_BYTES, KEY, RECORD_BYTES, TILE, TLUT};
-use crate::case::{Call, Case, Fill, Pieces};
+use crate::case::{Call, Case, Fill, Pieces, CHANGES};
 use crate::input::Input;
 use original::calls::Picture;
 use tulonkasa::Tile;
@@ -99,6 +99,7 @@ impl Random {
             Call::LoadTlut | Call::LoadTlutRows => [self.near(1024), 1 + self.near(1023), self.near(65535)],
             Call::TileHasLoad => [self.near(511), self.near(3), self.near(2)],
             Call::Rejection => std::array::from_fn(|_| self.reasoned_address(&case.tile)),
+            Call::CheckKey => std::array::from_fn(|_| self.change(&case.tile)),
             _ => [0; 3],
         };
         if case.is_tlut() && self.to(1) == 0 {
@@ -109,6 +110,9 @@ impl Random {
         }
         if matches!(call, Call::LoadBlock | Call::LoadTile) || case.is_tlut() {
             case.reason = self.reason();
+        }
+        if call == Call::CheckKey {
+            case.image_siz = self.pick(&[0, 0, 0, 0, 1, 1, 2, 3]);
         }
         case.last = match call {
             Call::TileHasLoad => self.near(65534),
@@ -146,6 +150,14 @@ impl Random {
             3 => self.to(4095),
             4 => (2047 + 128 * tile.palette + self.near(129)).min(4095),
             _ => (8 * row + self.near(row_bytes + 1) + self.pick(&[0, 0, 0, 2048])) % 4096,
+        }
+    }
+
+    /// A changed byte of an offer: at an address as of a reason, or none.
+    fn change(&mut self, tile: &Tile) -> u32 {
+        match self.reasoned_address(tile) {
+            4096 => 4096 * CHANGES.len() as u32,
+            address => 4096 * self.to(CHANGES.len() as u32 - 1) + address,
         }
     }
 
@@ -234,7 +246,7 @@ impl Random {
 }
 
 /// The calls, each as often as it is to be tried.
-const CALLS: [Call; 18] = [
+const CALLS: [Call; 20] = [
     Call::LoadBlock,
     Call::LoadTile,
     Call::LoadTlut,
@@ -253,4 +265,6 @@ const CALLS: [Call; 18] = [
     Call::Rejection,
     Call::PaletteNonreplicated,
     Call::Key,
+    Call::CheckKey,
+    Call::CheckKey,
 ];

@@ -1,10 +1,10 @@
 //! Cases by structure: every pair, mode and lane with the limits of the sizes, tiles that repeat, the limits of every load, small loads
-//! from sources of every length, with every kind of last number and of reason, and reasons about what a tile reaches.
+//! from sources of every length, with every kind of last number and of reason, reasons about what a tile reaches, and offered keys.
 //! Runs of records: the limits of every number, several faults at a time, palettes about the pick between the two loads, keys of tiles that
 //! repeat, sources at the companion's end, and loads over each other's bytes until no number is left.
 use crate::capture::place::*;
 use crate::capture::{By, Companion, Record, Run, BLOCK, KEY, RECORD_BYTES, TILE, TLUT};
-use crate::case::{Call, Case, Fill};
+use crate::case::{Call, Case, Fill, CHANGES, OFFERS};
 use original::calls::Picture;
 use std::collections::BTreeSet;
 use tulonkasa::{Tile, SIDE_MOST};
@@ -121,6 +121,7 @@ pub fn cases() -> Vec<Case> {
     reasons_in_reach(&mut cases);
     reasons_in_palettes(&mut cases);
     banks(&mut cases);
+    offers(&mut cases);
     cases
 }
 
@@ -369,6 +370,44 @@ fn banks(cases: &mut Vec<Case>) {
             cases.push(Case { fill, seed, ..Case::new(Call::PaletteNonreplicated, Tile::default()) });
         }
     }
+}
+
+/// Offered keys: in every pair, mode and lane the right one and others, and the right one with a byte changed in each way at the ends of
+/// what the tile touches, alone and with another before or behind it. Then those of tiles that repeat.
+fn offers(cases: &mut Vec<Case>) {
+    for pair in 0..32 {
+        for mode in 0..4 {
+            for [width, height, line, tmem_addr, masks] in REASONED {
+                let (fmt, siz, palette) = (pair / 4, pair % 4, pair % 16);
+                let tile = Tile { fmt, siz, palette, mode, masks, line, tmem_addr, width, height, ..Tile::default() };
+                for lane in 0..4 {
+                    cases.extend((0..OFFERS.len()).map(|which| Case { lane, ..check(tile, which, [UNCHANGED; 3]) }));
+                }
+                let fill = [Fill::Random, Fill::Zero, Fill::Rising][pair as usize % 3];
+                for (i, address) in ends(&tile).into_iter().enumerate() {
+                    for change in 0..CHANGES.len() as u32 {
+                        let numbers = [4096 * change + address, UNCHANGED, UNCHANGED];
+                        cases.push(Case { fill, lane: 1, ..check(tile, 0, numbers) });
+                        let other = [63, 64, 2047, 2048, 4031, 4032, 4095, 0][i % 8];
+                        cases.push(Case { lane: 2, ..check(tile, 0, [numbers[0], 4096 * 2 + other, UNCHANGED]) });
+                    }
+                }
+            }
+        }
+    }
+    for texel in REPEATING {
+        for tile in repeating(texel) {
+            cases.extend([0, 1].map(|which| Case { lane: 2, ..check(tile, which, [UNCHANGED; 3]) }));
+        }
+    }
+}
+
+/// In place of a changed byte.
+const UNCHANGED: u32 = 4096 * CHANGES.len() as u32;
+
+/// The check of an offer, by its place among them.
+fn check(tile: Tile, which: usize, numbers: [u32; 3]) -> Case {
+    Case { image_siz: which as u32, numbers, ..Case::new(Call::CheckKey, tile) }
 }
 
 /// The most that some kind takes of each of a record's numbers.

@@ -207,16 +207,9 @@ pub fn picture_counted(
     Some((picture, reads))
 }
 
-/// The key, which the original has no call for: the bytes that the visible picture reads, and how many they are. The flag is the
-/// whole tile's. A lookup is whole; of a plain picture the original makes what is shown.
+/// The key, which the original has no call for: the bytes that the visible picture reads, and how many they are.
 pub fn key(bank: &Bytes, tile: &TileDescriptor, mode: u8, lane: usize) -> Option<(Bytes, u32)> {
-    let mut read = [false; 4096];
-    let reads = |address| read[address] = true;
-    if sampling(tile, mode).0 == 1 {
-        decode(bank, tile, mode, lane, Picture::Lookup, reads)?;
-    } else {
-        decode(bank, &visible(tile), mode, lane, Picture::Plain, reads)?;
-    }
+    let read = visible_reads(bank, tile, mode, lane)?;
     let mut key = [0; 4096];
     let mut kept = 0;
     for (address, _) in read.iter().enumerate().filter(|(_, read)| **read) {
@@ -224,6 +217,19 @@ pub fn key(bank: &Bytes, tile: &TileDescriptor, mode: u8, lane: usize) -> Option
         kept += 1;
     }
     Some((key, kept))
+}
+
+/// For each address whether the visible picture reads it. The flag is the whole tile's. A lookup is whole; of a plain picture the original
+/// makes what is shown.
+pub fn visible_reads(bank: &Bytes, tile: &TileDescriptor, mode: u8, lane: usize) -> Option<[bool; 4096]> {
+    let mut read = [false; 4096];
+    let reads = |address| read[address] = true;
+    if sampling(tile, mode).0 == 1 {
+        decode(bank, tile, mode, lane, Picture::Lookup, reads)?;
+    } else {
+        decode(bank, &visible(tile), mode, lane, Picture::Plain, reads)?;
+    }
+    Some(read)
 }
 
 /// The tile with its sides cut to what a renderer shows of them, as document 02's item 4 says. The original has no such cut.
