@@ -316,10 +316,21 @@ fn key(bank: &Bytes, case: &Case) -> Result<Amount, String> {
 
 /// What is due of an offer is told by the addresses that the original reads, and by the sentences of document 02's item 13.
 fn check_key(bank: &Bytes, case: &Case) -> Result<Amount, String> {
-    let offer = offer(bank, case);
+    let (tile, mode, lane) = (descriptor(&case.tile), case.tile.mode as u8, case.lane as usize);
+    let reads = calls::visible_reads(bank, &tile, mode, lane);
+    // Of a pair that is not accepted any will do.
+    let mut offer = match OFFERS[case.image_siz as usize] {
+        Offer::Right => reads.map_or([0; 4096], |kept| calls::kept(bank, &kept)),
+        Offer::Whole => {
+            let whole = TileDescriptor { masks: 0, maskt: 0, ..tile };
+            calls::key(bank, &whole, mode, lane).map_or([0; 4096], |(key, _)| key)
+        }
+        Offer::Bank => *bank,
+        Offer::Zero => [0; 4096],
+    };
+    change(&mut offer, bank, case);
     let lent = offer;
     let answer = slices::check_key(bank, &case.tile, case.lane, &lent);
-    let reads = calls::visible_reads(bank, &descriptor(&case.tile), case.tile.mode as u8, case.lane as usize);
     let due = reads.map(|kept| checked(bank, &kept, &offer)).ok_or(Refusal::Pair);
     same_answer(due, answer)?;
     same("the offer that was lent to be read", &offer, &lent)?;
@@ -327,16 +338,8 @@ fn check_key(bank: &Bytes, case: &Case) -> Result<Amount, String> {
     Ok(Amount { refused: due.is_err().into(), wrong, ..Amount::default() })
 }
 
-/// The key that is offered. Of a pair that is not accepted any will do.
-fn offer(bank: &Bytes, case: &Case) -> Bytes {
-    let (tile, mode, lane) = (descriptor(&case.tile), case.tile.mode as u8, case.lane as usize);
-    let key = |tile| calls::key(bank, &tile, mode, lane).map_or([0; 4096], |(key, _)| key);
-    let mut offer = match OFFERS[case.image_siz as usize] {
-        Offer::Right => key(tile),
-        Offer::Whole => key(TileDescriptor { masks: 0, maskt: 0, ..tile }),
-        Offer::Bank => *bank,
-        Offer::Zero => [0; 4096],
-    };
+/// Changes bytes of an offer.
+fn change(offer: &mut Bytes, bank: &Bytes, case: &Case) {
     for (change, address) in case.changes() {
         match change {
             Change::ToZero => offer[address] = 0,
@@ -344,7 +347,6 @@ fn offer(bank: &Bytes, case: &Case) -> Bytes {
             Change::ByABit => offer[address] ^= 1 << (case.seed % 8),
         }
     }
-    offer
 }
 
 /// The lowest address at which the offer is not the key, and which of the sentences holds there.

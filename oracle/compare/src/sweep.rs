@@ -372,25 +372,21 @@ fn banks(cases: &mut Vec<Case>) {
     }
 }
 
-/// Offered keys: in every pair, mode and lane the right one and others, and the right one with a byte changed in each way at the ends of
-/// what the tile touches, alone and with another before or behind it. Then those of tiles that repeat.
+/// Offered keys: in every pair and mode the right one and others; and the right one with a byte changed in each way at the ends of what the
+/// tile touches, alone and with another byte changed beside it. Then those of tiles that repeat.
 fn offers(cases: &mut Vec<Case>) {
     for pair in 0..32 {
         for mode in 0..4 {
-            for [width, height, line, tmem_addr, masks] in REASONED {
+            for (lane, [width, height, line, tmem_addr, masks]) in (0..4).cycle().zip(REASONED) {
                 let (fmt, siz, palette) = (pair / 4, pair % 4, pair % 16);
                 let tile = Tile { fmt, siz, palette, mode, masks, line, tmem_addr, width, height, ..Tile::default() };
-                for lane in 0..4 {
-                    cases.extend((0..OFFERS.len()).map(|which| Case { lane, ..check(tile, which, [UNCHANGED; 3]) }));
-                }
+                cases.extend((0..OFFERS.len()).map(|which| Case { lane, ..check(tile, which, [UNCHANGED; 3]) }));
                 let fill = [Fill::Random, Fill::Zero, Fill::Rising][pair as usize % 3];
                 for (i, address) in ends(&tile).into_iter().enumerate() {
-                    for change in 0..CHANGES.len() as u32 {
-                        let numbers = [4096 * change + address, UNCHANGED, UNCHANGED];
-                        cases.push(Case { fill, lane: 1, ..check(tile, 0, numbers) });
-                        let other = [63, 64, 2047, 2048, 4031, 4032, 4095, 0][i % 8];
-                        cases.push(Case { lane: 2, ..check(tile, 0, [numbers[0], 4096 * 2 + other, UNCHANGED]) });
-                    }
+                    let changed = (0..CHANGES.len() as u32).map(|change| 4096 * change + address);
+                    cases.extend(changed.map(|one| Case { fill, lane, ..check(tile, 0, [one, UNCHANGED, UNCHANGED]) }));
+                    let other = [0, 63, 64, 2047, 2048, 4031, 4032, 4095][i % 8];
+                    cases.push(Case { lane, ..check(tile, 0, [address, 4096 * 2 + other, UNCHANGED]) });
                 }
             }
         }

@@ -210,13 +210,12 @@ pub fn picture_counted(
 /// The key, which the original has no call for: the bytes that the visible picture reads, and how many they are.
 pub fn key(bank: &Bytes, tile: &TileDescriptor, mode: u8, lane: usize) -> Option<(Bytes, u32)> {
     let read = visible_reads(bank, tile, mode, lane)?;
-    let mut key = [0; 4096];
-    let mut kept = 0;
-    for (address, _) in read.iter().enumerate().filter(|(_, read)| **read) {
-        key[address] = bank[address];
-        kept += 1;
-    }
-    Some((key, kept))
+    Some((kept(bank, &read), read.iter().map(|&read| u32::from(read)).sum()))
+}
+
+/// The bytes that are read, and zero for all others.
+pub fn kept(bank: &Bytes, read: &[bool; 4096]) -> Bytes {
+    std::array::from_fn(|address| if read[address] { bank[address] } else { 0 })
 }
 
 /// For each address whether the visible picture reads it. The flag is the whole tile's. A lookup is whole; of a plain picture the original
