@@ -63,7 +63,8 @@ module _ (t : Tile) (mode lane : ℕ) (bank : List ℕ) (n : length bank ≡ ban
       → getD (keyOf (picture t mode lane) bank) a 0 ≡ getD (key t mode lane bank) a 0
   same-unless-past a no-past =
       rw (whole-byte a, right-byte a)
-      (go (mem a (trail (picture t mode lane) bank)) refl (mem a (trail (visiblePicture t mode lane) bank)) refl (ℕ-discrete (getD bank a 0) 0))
+      (go (mem a (trail (picture t mode lane) bank)) refl (mem a (trail (visiblePicture t mode lane) bank)) refl
+      (ℕ-discrete (getD bank a 0) 0))
     where
       go : (u : Bool) → mem a (trail (picture t mode lane) bank) ≡ u → (v : Bool) → mem a (trail (visiblePicture t mode lane) bank) ≡ v
           → Dec (getD bank a 0 ≡ 0) → cond u (getD bank a 0) 0 ≡ cond v (getD bank a 0) 0

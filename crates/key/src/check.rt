@@ -16,10 +16,14 @@ use rdp::answer::CheckAnswer;
 use rdp::tile::TileDescriptor;
 use tmem::bank::Bank;
 
-// What is wrong at an address.
-pub const MISSING: u32 = 1;
-pub const LEFT_OVER: u32 = 2;
-pub const ANOTHER_VALUE: u32 = 3;
+// What is wrong at an address: the byte is missing,
+const MISSING: u32 = 1;
+
+// or it is left over,
+const LEFT_OVER: u32 = 2;
+
+// or it has another value.
+const ANOTHER_VALUE: u32 = 3;
 
 // So many bytes are compared without a look at each: a part of the bank.
 const PART: usize = 64;
@@ -123,7 +127,13 @@ fn answer_at(bank: &[u8], notes: &[u8], offer: &[u8], at: usize) -> CheckAnswer
 }
 
 // The check of a key against that of the picture, where nothing is refused.
-fn check_picture(bank: &[u8], tile: TileDescriptor, tlut: u32, lane: u32, offer: &[u8]) -> CheckAnswer
+fn check_picture(
+    bank: &[u8],
+    tile: TileDescriptor,
+    tlut: u32,
+    lane: u32,
+    offer: &[u8],
+) -> CheckAnswer
     requires { ⌜ (length (now bank) ≡ bankSize) × (length (now offer) ≡ bankSize) ⌝ }
     requires { ⌜ first (pairTests (tileOf tile) tlut lane) ≡ 0 ⌝ }
     ensures { λ r. ⌜ checkAnswered r ≡ taken (checked (tileOf tile) tlut lane (now (bank .entry)) (now (offer .entry))) ⌝ }
@@ -134,8 +144,14 @@ fn check_picture(bank: &[u8], tile: TileDescriptor, tlut: u32, lane: u32, offer:
     answer_at(bank, &notes, offer, at)
 }
 
-// Whether the offer is the key of a picture; where it is not, the lowest wrong address and what is wrong there. Or the refusal (1, 2, 3, 5).
-pub fn check_key(bank: &[u8], tile: TileDescriptor, tlut: u32, lane: u32, offer: &[u8]) -> CheckAnswer
+// Whether the offer is the picture's key; if not, the lowest wrong address and what is wrong there; or the refusal (1, 2, 3, 5).
+pub fn check_key(
+    bank: &[u8],
+    tile: TileDescriptor,
+    tlut: u32,
+    lane: u32,
+    offer: &[u8],
+) -> CheckAnswer
     ensures { λ r. ⌜ checkAnswered r ≡ checkCall (now (bank .entry)) (tileOf tile) tlut lane (now (offer .entry)) ⌝ }
 {
     let no = key_refusal(bank, tile, tlut, lane, offer);

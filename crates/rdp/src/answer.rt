@@ -55,8 +55,8 @@ pub struct ReasonAnswer {
     pub reason: u32,
 }
 
-// Whether an offered key is right (1) or not (0); where it is not, the lowest wrong address and what is wrong there: 1 missing, 2 left over,
-// 3 another value.
+// Whether an offered key is right (1) or not (0); where it is not, the lowest wrong address and what is wrong there: 1 missing, 2 left
+// over, 3 another value.
 #[repr(C)]
 pub struct CheckAnswer {
     pub refusal: u32,

@@ -19,7 +19,7 @@ use Rattle.rules.specs.Key.{key, keptCount}
 use Rattle.rules.specs.Check.{Lowest, wrongAt, lowestWrong, missing, leftOver, wrongKind, checked}
 use Rattle.rules.specs.Refusal.{Outcome, first}
 use Rattle.rules.specs.Calls.{keyTests, keyCall, checkCall}
-use Rattle.rules.proofs.Keys.{length-key}
+use Rattle.rules.proofs.Keys.{length-key, key-byte}
 use Rattle.rules.proofs.Ranges.{both}
 use Rattle.rules.proofs.Refused.{Passed, numbered, passed, first-next, done-is}
 
@@ -231,6 +231,28 @@ module _ (t : Tile) (mode lane : ℕ) (bank offer : List ℕ) (whole : length of
   no-at a f =
       let apart : a ≡ bankSize → ⊥ = λ e. omega (arith, f .inside) in
       rw (← wrong-lowest (key t mode lane bank) offer length-right whole a f, ne-eqb a bankSize apart)
+
+  -- another value is at a kept byte, and not zero
+  pub another-kept : (a : ℕ) → FirstWrong (key t mode lane bank) offer a → length bank ≡ bankSize
+      → wrongKind (mem a (trail (visiblePicture t mode lane) bank)) (getD bank a 0) (getD offer a 0) ≡ 3
+      → (mem a (trail (visiblePicture t mode lane) bank) ≡ true) × (getD offer a 0 ≡ getD bank a 0 → ⊥) × (getD offer a 0 ≡ 0 → ⊥)
+  unfolding key
+  another-kept a f n e = go (mem a (trail (visiblePicture t mode lane) bank)) refl
+    where
+      kept : Bool
+      kept = mem a (trail (visiblePicture t mode lane) bank)
+
+      neither-kind : (Missing kept (getD bank a 0) (getD offer a 0) → ⊥) × (LeftOver kept (getD offer a 0) → ⊥)
+      neither-kind = another-means kept (getD bank a 0) (getD offer a 0) .0 e
+
+      right : getD (key t mode lane bank) a 0 ≡ cond kept (getD bank a 0) 0
+      right = key-byte (visiblePicture t mode lane) bank a n
+
+      go : (b : Bool) → kept ≡ b → (kept ≡ true) × (getD offer a 0 ≡ getD bank a 0 → ⊥) × (getD offer a 0 ≡ 0 → ⊥)
+      go true k =
+          let differs : getD offer a 0 ≡ getD bank a 0 → ⊥ = λ q. f .wrong (q ∙ sym (right ∙ rw k)) in
+          (k, differs, λ z. neither-kind .0 (k, (λ q. differs (z ∙ sym q)), z))
+      go false k = absurd (neither-kind .1 (k, λ z. f .wrong (z ∙ sym (right ∙ rw k))))
 
 -- The key call's own key is right.
 module _ (bank out : List ℕ) (t : Tile) (mode lane : ℕ) (z : first (keyTests bank t mode lane out) ≡ 0) where

@@ -37,8 +37,8 @@ record-lacks end r l h = go (asksKey r)
     go true = h
     go false = h
 
--- Every call, on every input: the loads, ordinary and rejected; what is asked of a tile or a bank; the pictures, the key and its check; a line of the
--- lister, a number and the listing; a record in a run of a replay and alone, and the run; picture files; the split.
+-- Every call, on every input: the loads, ordinary and rejected; what is asked of a tile or a bank; the pictures, the key and the check of
+-- one; a line of the lister, a number and the listing; a record in a run of a replay and alone, and the run; picture files; the split.
 module _ (bank map reasons src : List ℕ) (t : Tile) (image dxt words rows stride count : ℕ) (why : Reason) (last mode lane : ℕ)
     (out seen picture file entries input r part : List ℕ) (n after at w h end : ℕ) (m : Carried) (p : Piece) where
   pub no-nine : Nineless (blockCall bank map reasons src t image dxt words why last)
@@ -66,7 +66,8 @@ module _ (bank map reasons src : List ℕ) (t : Tile) (image dxt words rows stri
       × Nineless (pamReadCall file picture)
       × Nineless (splitCall count entries out)
   unfolding call callOr blockCall tileCall tlutHardwareCall tlutRowsCall samplingCall reachCall hasLoadCall rejectionCall laneCall
-      pictureCall observedCall keyCall checkCall checked lineOf numberCall listCall tested outcome replayCall runCall pamWriteCall pamReadCall splitCall
+      pictureCall observedCall keyCall checkCall checked lineOf numberCall listCall tested outcome replayCall runCall pamWriteCall
+      pamReadCall splitCall
   no-nine = (
     nineless _ _ _ _ _ refl,
     nineless _ _ _ _ _ refl,

@@ -42,8 +42,8 @@ loop-again c =
     let one-more : from + l .loop .k + 1 ≡ from + (l .loop .k + 1) = omega arith in (
       omega arith,
       λ h.
-      let b = both _ _ h in
-      rw (← one-more) (none-more _ _ _ (l .loop .inv .1 (b .0)) (ap not (sym (c .is-right .ensures) ∙ b .1))),
+          let b = both _ _ h in
+          rw (← one-more) (none-more _ _ _ (l .loop .inv .1 (b .0)) (ap not (sym (c .is-right .ensures) ∙ b .1))),
     )
 
 returns : tie.Need-returns Inv-loop μ-loop
