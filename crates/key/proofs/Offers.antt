@@ -13,11 +13,11 @@ use Rattle.rules.specs.Tile.{Tile, bankSize}
 use Rattle.rules.specs.Reading.{trail}
 use Rattle.rules.specs.Picture.{visiblePicture}
 use Rattle.rules.specs.Key.{key}
-use Rattle.rules.specs.Check.{Lowest, wrongAt, lowestWrong, wrongKind, checked}
+use Rattle.rules.specs.Check.{Lowest, wrongAt, lowestWrong, wrongKind, said, checked}
 use Rattle.rules.proofs.Keys.{length-key, key-byte}
 use Rattle.rules.proofs.Check.{lowest-one, lowest-same, lowest-wrong}
 use Rattle.key.specs.Notes.{Notes}
-use Rattle.key.specs.Offer.{Lent, wrongBy, taken, answeredBy, answeredAt}
+use Rattle.key.specs.Offer.{Lent, wrongBy, taken, answeredAt}
 use Rattle.key.proofs.Cuts.{times-one}
 
 -- f holds of none from i on and below a
@@ -89,6 +89,6 @@ module _ (t : Tile) (mode lane : ℕ) (bank notes offer : List ℕ) (lent : Lent
   checked-by-notes a l = rw (← lowest-found a l) (go (ℕ-discrete a bankSize))
     where
       go : Dec (a ≡ bankSize) → answeredAt bank notes offer a
-          ≡ taken (answeredBy a (wrongKind (mem a (trail (visiblePicture t mode lane) bank)) (getD bank a 0) (getD offer a 0)))
+          ≡ taken (said a (wrongKind (mem a (trail (visiblePicture t mode lane) bank)) (getD bank a 0) (getD offer a 0)))
       go (yes e) = rw (eq-eqb a bankSize e)
       go (no e) = rw (kept-by-note a (omega (arith, l .to)))

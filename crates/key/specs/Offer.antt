@@ -1,13 +1,12 @@
 -- An offered key beside the bank and the notes of what was read.
 use mathlib.Core.Path.{_≡_}
-use mathlib.Core.Bool.{Bool, cond, not}
-use mathlib.Core.List.{List, [], _∷_}
+use mathlib.Core.Bool.{Bool, not}
+use mathlib.Core.List.{List, []}
 use Prim.Native.Nat.{ℕ, _*_, _≤_}
 use lib.Dec.{eqb}
 use lib.ListN.{length, getD}
-use Rattle.rules.specs.Base.{one}
 use Rattle.rules.specs.Tile.{bankSize}
-use Rattle.rules.specs.Check.{wrongKind}
+use Rattle.rules.specs.Check.{wrongKind, said}
 use Rattle.rules.specs.Refusal.{Outcome}
 
 -- the three have a byte for each address, and a note is 0 or 1
@@ -32,10 +31,6 @@ partSize = 64
 abbrev pub taken : List ℕ → Outcome
 taken numbers = record { refusal = 0; numbers = numbers; buffers = [] }
 
--- its numbers by the lowest wrong address, and by what is wrong there where there is one
-abbrev pub answeredBy : ℕ → ℕ → List ℕ
-answeredBy a kind = let yes : Bool = eqb a bankSize in one yes ∷ cond yes 0 a ∷ cond yes 0 kind ∷ []
-
--- by the notes
+-- that of one whose lowest wrong address is a, by the notes
 abbrev pub answeredAt : List ℕ → List ℕ → List ℕ → ℕ → Outcome
-answeredAt bank notes offer a = taken (answeredBy a (wrongKind (eqb (getD notes a 0) 1) (getD bank a 0) (getD offer a 0)))
+answeredAt bank notes offer a = taken (said a (wrongKind (eqb (getD notes a 0) 1) (getD bank a 0) (getD offer a 0)))

@@ -41,11 +41,12 @@ leftOver isKept inOffer = not isKept && not (eqb inOffer 0)
 unfoldable pub wrongKind : Bool → ℕ → ℕ → ℕ
 wrongKind isKept inBank inOffer = cond (missing isKept inBank inOffer) 1 (cond (leftOver isKept inOffer) 2 3)
 
--- "says yes exactly when that key is the right one under Item 4": 1 or 0. On a no, the lowest wrong address and what is wrong there; on a
--- yes 0 for both.
+-- yes or no, 1 or 0, by the lowest wrong address; on a no, that address and what is wrong there, and on a yes 0 for both
+abbrev pub said : ℕ → ℕ → List ℕ
+said a kind = let yes : Bool = eqb a bankSize in one yes ∷ cond yes 0 a ∷ cond yes 0 kind ∷ []
+
+-- "says yes exactly when that key is the right one under Item 4"
 unfoldable pub checked : Tile → ℕ → ℕ → List ℕ → List ℕ → List ℕ
 checked t mode lane bank offer =
     let a : ℕ = lowestWrong (key t mode lane bank) offer in
-    let yes : Bool = eqb a bankSize in
-    let kind : ℕ = wrongKind (mem a (trail (visiblePicture t mode lane) bank)) (getD bank a 0) (getD offer a 0) in
-    one yes ∷ cond yes 0 a ∷ cond yes 0 kind ∷ []
+    said a (wrongKind (mem a (trail (visiblePicture t mode lane) bank)) (getD bank a 0) (getD offer a 0))
