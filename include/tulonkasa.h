@@ -2,10 +2,10 @@
  *
  * The texture memory is a bank of 4,096 bytes. The library loads it (block, tile, palette) and records which load wrote each
  * byte, and the reason if that load's source was rejected. It makes pictures of the bank, says which of its bytes a tile can
- * reach, and cuts a key for a picture: the bank with the bytes kept that making its visible part reads, and all others zero.
- * It decodes a source straight to the picture that a load of it gives, without a bank. It writes a picture as a file for other
- * programs, and reads such files. It replays a capture, which is a file of records of such loads and keys. It also splits
- * captures into tuning and held-out ones by their keys.
+ * reach, and cuts a key for a picture: the bank with the bytes kept that making its visible part reads, and all others zero. It
+ * checks a key that was made elsewhere. It decodes a source straight to the picture that a load of it gives, without a bank. It
+ * writes a picture as a file for other programs, and reads such files. It replays a capture, which is a file of records of such
+ * loads and keys. It also splits captures into tuning and held-out ones by their keys.
  *
  * Rules that hold for every call:
  *
@@ -80,6 +80,16 @@ enum {
     TK_REFUSED_REASON = 19       /* the reason of a rejected load is 0, or above TK_REASON_MOST */
 };
 
+/* ---- What is wrong with an offered key ------------------------------------------------------------------------------ */
+
+/* A byte is kept where the visible picture reads it (see Keys), whatever the bank has there. */
+enum {
+    TK_KEY_RIGHT = 0,        /* nothing is */
+    TK_KEY_MISSING = 1,      /* the byte is kept and not zero in the bank, but zero in the offer */
+    TK_KEY_LEFT_OVER = 2,    /* the byte is not kept, and the offer has not zero there */
+    TK_KEY_ANOTHER_VALUE = 3 /* any other difference: the byte is kept, and the offer has another one, not zero */
+};
+
 /* ---- Answers -------------------------------------------------------------------------------------------------------- */
 
 /* count: a picture's reads, of a bank or of a source; a key's kept bytes; or a file's bytes */
@@ -135,6 +145,16 @@ typedef struct tk_reason_answer {
     uint32_t refusal;
     uint32_t reason;
 } tk_reason_answer;
+
+/* yes: 1 if the offered key is right, else 0. address: where it is not, the lowest address at which it is wrong, below TK_BANK_BYTES.
+ * wrong: what is wrong there, TK_KEY_MISSING, TK_KEY_LEFT_OVER or TK_KEY_ANOTHER_VALUE. Of a right key both are 0, and of a refused call
+ * all three. */
+typedef struct tk_check_answer {
+    uint32_t refusal;
+    uint32_t yes;
+    uint32_t address;
+    uint32_t wrong;
+} tk_check_answer;
 
 /* tuning, held_out: how many entries are on each side. They add up to the count of entries. */
 typedef struct tk_split_answer {
@@ -396,6 +416,20 @@ uint32_t tk_palette_nonreplicated(const uint8_t *bank, size_t bank_length, uint8
 tk_answer tk_key(const uint8_t *bank, size_t bank_length, TK_TILE_PARAMETERS, uint32_t lane, uint8_t *key,
                  size_t key_length);
 
+/* Whether `offer` is the key that tk_key cuts for the same bank, tile, mode and lane: yes exactly if all its bytes are. For keys that
+ * another program made, with the bank that each was cut from.
+ *
+ * On a no it names the lowest address at which the offer is wrong, and says what is wrong there; at every lower address the offer is
+ * right. What is kept is what the visible picture reads, so a zero of the bank can be kept. With a bank of zeros and a tile of which
+ * address 0 is kept, an offer with 5 there has another value, and one with 5 at address 1 has a byte left over.
+ *
+ * A key that keeps a repeating tile whole is not right. It is left over at the first byte past the visible columns and rows that is not
+ * zero in the bank; where there is none, it is right.
+ *
+ * Both buffers are read, and none is changed. Refuses as tk_key does, and in its order: 1 (bank, offer), 2, 3, 5. */
+tk_check_answer tk_check_key(const uint8_t *bank, size_t bank_length, TK_TILE_PARAMETERS, uint32_t lane,
+                             const uint8_t *offer, size_t offer_length);
+
 /* ---- Replay of a capture -------------------------------------------------------------------------------------------- */
 
 /* Does one record of a capture: a load, as tk_load_.. do it, or the question for a picture's key. The sources of all loads
@@ -467,7 +501,7 @@ tk_split_answer tk_split(uint32_t count, const uint8_t *entries, size_t entries_
 
 /* ---- The same calls on a tk_tile ------------------------------------------------------------------------------------ */
 
-/* Here a bank or key is a pointer to TK_BANK_BYTES, a written record to TK_WRITTEN_BYTES, reasons to TK_REASON_BYTES, a reach map
+/* Here a bank, key or offer is a pointer to TK_BANK_BYTES, a written record to TK_WRITTEN_BYTES, reasons to TK_REASON_BYTES, a reach map
  * to TK_MAP_BYTES, a lane map to TK_LANE_MAP_BYTES, a capture's record to TK_RECORD_BYTES, entries to TK_ENTRY_BYTES each, sides
  * to a byte each. */
 
@@ -574,6 +608,11 @@ static inline uint32_t tk_palette_nonreplicated_of(const uint8_t *bank, uint8_t 
 
 static inline tk_answer tk_key_of(const uint8_t *bank, const tk_tile *tile, uint32_t lane, uint8_t *key) {
     return tk_key(bank, TK_BANK_BYTES, TK_TILE_ARGUMENTS(tile), lane, key, TK_BANK_BYTES);
+}
+
+static inline tk_check_answer tk_check_key_of(const uint8_t *bank, const tk_tile *tile, uint32_t lane,
+                                              const uint8_t *offer) {
+    return tk_check_key(bank, TK_BANK_BYTES, TK_TILE_ARGUMENTS(tile), lane, offer, TK_BANK_BYTES);
 }
 
 static inline tk_replay_answer tk_replay_record_of(uint8_t *bank, uint8_t *written, uint8_t *reasons, const uint8_t *record,

@@ -17,6 +17,9 @@ const GOAL: f64 = 0.5;
 const GOAL_PICTURES_AND_LOADS: f64 = 0.25;
 const GOAL_SPLITS: f64 = 2.0;
 
+/// The goal for the ratio of a check of a key to the key call itself.
+const GOAL_CHECKS: f64 = 1.2;
+
 /// No split should take longer, in nanoseconds.
 const SPLIT_MOST: f64 = 100e6;
 
@@ -60,6 +63,7 @@ fn main() -> ExitCode {
     bench.linear();
     bench.loads();
     bench.others();
+    bench.checks();
     println!();
     bench.files(&[64, 1024]);
     bench.splits();
@@ -116,6 +120,18 @@ fn descriptor(tile: &Tile) -> TileDescriptor {
 /// A tile of 64 by 64 texels, rows one behind the other.
 fn square(fmt: u32, siz: u32, mode: u32) -> Tile {
     Tile { fmt, siz, mode, palette: 3, line: 4 << siz.min(2), width: 64, height: 64, ..Tile::default() }
+}
+
+/// Tiles whose keys are cut and checked.
+fn keyed() -> [(&'static str, Tile); 6] {
+    [
+        ("16-bit tile of 64 by 64", square(0, 2, 0)),
+        ("8-bit tile of 64 by 64", square(4, 1, 0)),
+        ("32-bit tile of 64 by 64", square(0, 3, 0)),
+        ("palette tile of 64 by 64", square(2, 1, 2)),
+        ("lookup, palette", square(1, 1, 2)),
+        ("8-bit tile of 1,024 by 1,024", Tile { width: 1024, height: 1024, ..square(4, 1, 0) }),
+    ]
 }
 
 /// Every pair that a mode accepts.
@@ -370,16 +386,38 @@ impl Bench {
             self.reach_and_has_load(name, &tile);
         }
         self.rejections();
-        for (name, tile) in [
-            ("16-bit tile of 64 by 64", square(0, 2, 0)),
-            ("8-bit tile of 64 by 64", square(4, 1, 0)),
-            ("32-bit tile of 64 by 64", square(0, 3, 0)),
-            ("palette tile of 64 by 64", square(2, 1, 2)),
-            ("lookup, palette", square(1, 1, 2)),
-            ("8-bit tile of 1,024 by 1,024", Tile { width: 1024, height: 1024, ..square(4, 1, 0) }),
-        ] {
+        for (name, tile) in keyed() {
             self.key(name, &tile);
         }
+    }
+
+    /// The archive's own key call stands beside its check.
+    fn checks(&mut self) {
+        println!("\nChecks of offered keys, nanoseconds a check, beside the archive's own key call.\n");
+        println!("| offer | key | check | ratio |");
+        println!("|---|---|---|---|");
+        let one = Tile { width: 1, height: 1, ..square(4, 1, 0) };
+        for (name, tile) in [("8-bit tile of one texel", one)].into_iter().chain(keyed()) {
+            let mut right = [0; 4096];
+            slices::key(&self.bank, &tile, 1, &mut right).expect("accepted");
+            self.check_row(format!("right, {name}"), &tile, &right);
+            for address in [0, 4095] {
+                let mut offer = right;
+                offer[address] ^= 1;
+                self.check_row(format!("wrong at {address}, {name}"), &tile, &offer);
+            }
+        }
+    }
+
+    fn check_row(&mut self, name: String, tile: &Tile, offer: &[u8; 4096]) {
+        let (bank, mut key) = (self.bank, [0; 4096]);
+        let pair = race(
+            self.rounds,
+            || used(slices::key(black_box(&bank), black_box(tile), 1, black_box(&mut key)).expect("accepted")),
+            || used(slices::check_key(black_box(&bank), black_box(tile), 1, black_box(offer)).expect("accepted")),
+        );
+        let cells = self.judge(format!("check, {name}"), pair, GOAL_CHECKS);
+        println!("| {name} | {cells} |");
     }
 
     fn row(&mut self, name: String, pair: Pair) {
@@ -565,8 +603,8 @@ impl Bench {
 
     fn conclude(&self) {
         println!(
-            "\nGoals: {GOAL_PICTURES_AND_LOADS} for pictures and loads, {GOAL_SPLITS} for splits and {} ms, {GOAL} for the others. \
-             Above them: {}.",
+            "\nGoals: {GOAL_PICTURES_AND_LOADS} for pictures and loads, {GOAL_CHECKS} for checks beside keys, {GOAL_SPLITS} for splits \
+             and {} ms, {GOAL} for the others. Above them: {}.",
             SPLIT_MOST / 1e6,
             self.above.len()
         );

@@ -1,7 +1,8 @@
 /* An example: load a block, make a picture of it, decode the same source without a bank, write the picture as a file and read it
- * back, cut the picture's key, and print the bytes that the key keeps. Then load one word anew, and print which load each byte that
- * the picture reads came from. Then do a load whose source was rejected, and ask which tiles touch it. Then load a palette in each
- * of the two ways. Then replay a capture of the first load and the key, and split six captures of the tile. */
+ * back, cut the picture's key, and print the bytes that the key keeps. Then check some keys that another program might have made.
+ * Then load one word anew, and print which load each byte that the picture reads came from. Then do a load whose source was
+ * rejected, and ask which tiles touch it. Then load a palette in each of the two ways. Then replay a capture of the first load and
+ * the key, and split six captures of the tile. */
 
 #include <inttypes.h>
 #include <stdio.h>
@@ -17,6 +18,14 @@ static int refused(const char *what, uint32_t refusal) {
 
 static void print_load(tk_load_answer loaded) {
     printf("load %" PRIu32 ": stores: %" PRIu32 ", made up: %" PRIu32 "\n", loaded.number, loaded.count, loaded.made_up);
+}
+
+/* Prints what a check says of an offered key. */
+static void print_check(const char *offer, tk_check_answer checked) {
+    static const char *const kinds[] = {"right", "missing", "left over", "another value"};
+    printf("%s: %s", offer, kinds[checked.wrong]);
+    if (!checked.yes) printf(" at %" PRIu32, checked.address);
+    printf("\n");
 }
 
 int main(void) {
@@ -75,6 +84,18 @@ int main(void) {
     for (uint32_t a = 0; a < TK_BANK_BYTES; a++) {
         if (key[a] != 0) printf("%" PRIu32 ": %02x\n", a, key[a]);
     }
+
+    /* Keys that another program might have made: the right one; one with a byte behind the picture; without the picture's last
+     * byte as well; and with another value before it. The lowest wrong address is named. */
+    tk_check_answer checked = tk_check_key_of(bank, &tile, 0, key);
+    if (refused("check", checked.refusal)) return 1;
+    print_check("key", checked);
+    key[16] = 1;
+    print_check("a byte more", tk_check_key_of(bank, &tile, 0, key));
+    key[15] = 0;
+    print_check("a byte less", tk_check_key_of(bank, &tile, 0, key));
+    key[3] ^= 1;
+    print_check("a bit changed", tk_check_key_of(bank, &tile, 0, key));
 
     /* The second row again, from a source that was cut short. The number of the load before is passed. */
     load.tmem_addr = 1;

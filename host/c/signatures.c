@@ -35,6 +35,11 @@ static tk_tile with(tk_tile tile, size_t place, uint32_t number) {
     return tile;
 }
 
+/* Whether a check is refused by a number, and answers nothing else. */
+static int check_refused(tk_check_answer answer, uint32_t refusal) {
+    return answer.refusal == refusal && answer.yes + answer.address + answer.wrong == 0;
+}
+
 /* Each of the twelve arrives whole and in its place: its limit is taken, and one past it refused, by 3 for the mode (the
  * fourth), else by 2. A number of 2^32 - 1 is refused as well, so all 32 bits arrive. */
 static void check_the_twelve(void) {
@@ -60,6 +65,7 @@ static void check_the_twelve(void) {
             CHECK(tk_sampling_lookup_observed_of(bank, bad[k], 0, picture, sizeof picture, trail, sizeof trail).refusal ==
                   refusal);
             CHECK(tk_key_of(bank, bad[k], 0, key).refusal == refusal);
+            CHECK(check_refused(tk_check_key_of(bank, bad[k], 0, key), refusal));
         }
     }
 }
@@ -266,6 +272,10 @@ static void check_lengths(void) {
     CHECK(tk_key(bank, 4095, TK_TILE_ARGUMENTS(t), 0, key, 4096).refusal == 1);
     CHECK(tk_key(bank, 4096, TK_TILE_ARGUMENTS(t), 0, key, 4095).refusal == 1);
     CHECK(tk_key_of(bank, t, 4, key).refusal == 3);
+    CHECK(check_refused(tk_check_key(bank, 4095, TK_TILE_ARGUMENTS(t), 0, key, 4096), 1));
+    CHECK(check_refused(tk_check_key(bank, 4096, TK_TILE_ARGUMENTS(t), 0, key, 4095), 1));
+    CHECK(check_refused(tk_check_key(bank, 4096, TK_TILE_ARGUMENTS(t), 0, long_buffer, 4097), 1));
+    CHECK(check_refused(tk_check_key_of(bank, t, 4, key), 3));
     CHECK(tk_sample_tile(bank, 4095, TK_TILE_ARGUMENTS(t), 0, picture, 24).refusal == 1);
     CHECK(tk_sample_tile_of(bank, t, 4, picture, 24).refusal == 3);
     CHECK(tk_sample_tile_of(bank, t, 0, picture, 23).refusal == 6);
@@ -429,6 +439,38 @@ static void check_rejections(const tk_tile *tile) {
     CHECK(rejection_at(&bytes, 4095, 2047) == 5 && rejection_at(&bytes, 4095, 2048) == 255);
 }
 
+/* Whether a check of a key with another byte at an address answers a no, that address and what is wrong there. The byte is put back. */
+static int found_at(const tk_tile *tile, uint32_t address, uint8_t byte, uint32_t wrong) {
+    uint8_t right = key[address];
+    key[address] = byte;
+    tk_check_answer answer = tk_check_key_of(bank, tile, 0, key);
+    key[address] = right;
+    return answer.refusal == 0 && answer.yes == 0 && answer.address == address && answer.wrong == wrong;
+}
+
+/* The key keeps 16, 17, 18, 28, 29, 30, each with its own number. A zero is missing where the bank has another byte, and at a kept zero
+ * nothing is; bytes are left over beside and behind. Of two wrong ones the lower is named. The lane is the one that the key was cut by. */
+static void check_checks(const tk_tile *tile) {
+    CHECK(tk_key_of(bank, tile, 0, key).refusal == 0);
+    tk_check_answer right = tk_check_key_of(bank, tile, 0, key);
+    CHECK(right.refusal == 0 && right.yes == 1 && right.address == 0 && right.wrong == TK_KEY_RIGHT);
+    CHECK(found_at(tile, 16, 0, TK_KEY_MISSING) && found_at(tile, 30, 0, TK_KEY_MISSING));
+    CHECK(found_at(tile, 16, 17, TK_KEY_ANOTHER_VALUE) && found_at(tile, 30, 255, TK_KEY_ANOTHER_VALUE));
+    CHECK(found_at(tile, 0, 1, TK_KEY_LEFT_OVER) && found_at(tile, 31, 31, TK_KEY_LEFT_OVER));
+    CHECK(found_at(tile, 4095, 255, TK_KEY_LEFT_OVER));
+    bank[29] = key[29] = 0;
+    CHECK(tk_check_key_of(bank, tile, 0, key).yes == 1 && found_at(tile, 29, 29, TK_KEY_ANOTHER_VALUE));
+    bank[29] = 29;
+    CHECK(found_at(tile, 28, 1, TK_KEY_ANOTHER_VALUE)); /* 29 is missing */
+    tk_tile indexed = with(with(*tile, 3, 2), 1, 0);
+    for (uint32_t lane = 0; lane < 4; lane++) {
+        CHECK(tk_key_of(bank, &indexed, lane, key).refusal == 0);
+        for (uint32_t other = 0; other < 4; other++) {
+            CHECK(tk_check_key_of(bank, &indexed, other, key).yes == (lane == other));
+        }
+    }
+}
+
 /* What each entry but the loads and the replay answers and leaves on success. */
 static void check_answers(void) {
     tk_tile tile = plain_tile();
@@ -463,6 +505,8 @@ static void check_answers(void) {
     CHECK(answer.refusal == 0 && answer.count == 4 && key[17] == 17 && key[29] == 29 && key[18] == 0 && key[30] == 0);
     answer = tk_key_of(bank, &down, 0, key);
     CHECK(answer.refusal == 0 && answer.count == 6 && key[18] == 18 && key[30] == 30 && key[32] == 0);
+
+    check_checks(&tile);
 
     CHECK(tk_palette_nonreplicated_of(bank, lanes) == 0 && lanes[0] == 255 && lanes[31] == 255);
 }
@@ -671,6 +715,7 @@ static void check_null(void) {
     CHECK(tk_rejection(TK_TILE_ARGUMENTS(t), NULL, 0).refusal == 1);
     CHECK(tk_palette_nonreplicated(NULL, 0, NULL, 0) == 1);
     CHECK(tk_key(NULL, 0, TK_TILE_ARGUMENTS(t), 0, NULL, 0).refusal == 1);
+    CHECK(tk_check_key(NULL, 0, TK_TILE_ARGUMENTS(t), 0, NULL, 0).refusal == 1);
     static const uint8_t empty_block[TK_RECORD_BYTES];
     CHECK(tk_replay_record_of(bank, written, reasons, empty_block, 0, NULL, 0, 0).refusal == 0);
     CHECK(tk_replay_record(bank, 4096, written, 8192, reasons, 4096, NULL, 0, 0, NULL, 0, 0).refusal == 8);

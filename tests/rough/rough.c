@@ -128,6 +128,7 @@ enum {
     REJECTION,
     PALETTE_NONREPLICATED,
     CUT_KEY,
+    CHECK_KEY,
     REPLAY_RECORD,
     WRITE_PAM,
     READ_PAM,
@@ -154,6 +155,7 @@ static const char *const entry_names[ENTRIES] = {"tk_load_block",
                                                  "tk_rejection",
                                                  "tk_palette_nonreplicated",
                                                  "tk_key",
+                                                 "tk_check_key",
                                                  "tk_replay_record",
                                                  "tk_write_pam",
                                                  "tk_read_pam",
@@ -204,6 +206,7 @@ static const struct {
     [REJECTION] = {TAKES_TILE, 1 << REASONS, 0},
     [PALETTE_NONREPLICATED] = {0, 1 << BANK, 1 << LANES},
     [CUT_KEY] = {TAKES_TILE | TAKES_LANE | TAKES_PAIR, 1 << BANK, 1 << KEY},
+    [CHECK_KEY] = {TAKES_TILE | TAKES_LANE | TAKES_PAIR, 1 << BANK | 1 << KEY, 0},
     [REPLAY_RECORD] = {TAKES_RECORD, 1 << RECORD | 1 << SOURCE, LOADED},
     [WRITE_PAM] = {TAKES_SIDES, 1 << PICTURE, 1 << PAM},
     [READ_PAM] = {TAKES_HEADER, 1 << PAM, 1 << PICTURE},
@@ -694,6 +697,18 @@ static void choose_reasons(void) {
     write_front(&buffers[REASONS], reasons, sizeof reasons);
 }
 
+/* A key to be checked: the right one, with up to three bytes changed to zero, to the bank's, or to any; or any bytes. Where the call is
+ * to be refused it stays as it was. */
+static void choose_offer(void) {
+    uint8_t offer[TK_BANK_BYTES];
+    if (one_in(16) || tk_key_of(buffers[BANK].lent, &now.tile, now.lane, offer).refusal != TK_DONE) return;
+    for (uint32_t i = up_to(3); i > 0; i--) {
+        uint32_t a = one_in(4) ? 8 * (now.tile.tmem_addr & 511) + up_to(7) : up_to(TK_BANK_BYTES - 1);
+        offer[a] = one_in(3) ? 0 : one_in(2) ? buffers[BANK].lent[a] : (uint8_t)random64();
+    }
+    write_front(&buffers[KEY], offer, sizeof offer);
+}
+
 /* Lends every buffer that the entry takes. Picture, trail and file get what the tile needs as far as there is room, or more. */
 static void choose_lengths(void) {
     unsigned lent = entries[now.entry].read | entries[now.entry].written;
@@ -743,6 +758,7 @@ static void choose_call(void) {
     if (now.entry == REPLAY_RECORD) write_front(&buffers[RECORD], now.record, sizeof now.record);
     if (now.entry == READ_PAM) write_front(&buffers[PAM], now.header.bytes, now.header.length);
     if (now.entry == REJECTION) choose_reasons();
+    if (now.entry == CHECK_KEY && !wrong_length()) choose_offer();
     if (now.entry == SPLIT && expected_of_split() == 0) choose_entries();
 }
 
@@ -762,6 +778,13 @@ static void set_load_answer(tk_load_answer given) {
     answer.numbers[0] = given.count;
     answer.numbers[1] = given.made_up;
     answer.number = given.number;
+}
+
+static void set_check_answer(tk_check_answer given) {
+    answer.refusal = given.refusal;
+    answer.numbers[0] = given.yes;
+    answer.numbers[1] = given.address;
+    answer.numbers[2] = given.wrong;
 }
 
 static void set_replay_answer(tk_replay_answer given) {
@@ -820,6 +843,7 @@ static void make_call(void) {
         }
         case PALETTE_NONREPLICATED: answer.refusal = tk_palette_nonreplicated(LENT(BANK), LENT(LANES)); break;
         case CUT_KEY: set_answer(tk_key(LENT(BANK), TK_TILE_ARGUMENTS(t), now.lane, LENT(KEY))); break;
+        case CHECK_KEY: set_check_answer(tk_check_key(LENT(BANK), TK_TILE_ARGUMENTS(t), now.lane, LENT(KEY))); break;
         case REPLAY_RECORD:
             set_replay_answer(
                 tk_replay_record(LENT(BANK), LENT(WRITTEN), LENT(REASONS), LENT(RECORD), now.end, LENT(SOURCE), now.last));
@@ -936,6 +960,26 @@ static void check_reason(void) {
     if (!stands) fail("a reason that no address has");
 }
 
+/* What a check answered: a yes exactly if the offer is the key; else the lowest address at which it is not, and the kind. What is kept is
+ * what the key of a bank of ones keeps, in modes 0 and 1, where a picture reads the same addresses of every bank. */
+static void check_checked(void) {
+    uint8_t key[TK_BANK_BYTES], ones[TK_BANK_BYTES], kept[TK_BANK_BYTES];
+    const uint8_t *bank = buffers[BANK].lent, *offer = buffers[KEY].lent;
+    memset(ones, 1, sizeof ones);
+    if (tk_key_of(bank, &now.tile, now.lane, key).refusal != TK_DONE) fail("a key beside a check");
+    if (tk_key_of(ones, &now.tile, now.lane, kept).refusal != TK_DONE) fail("a key beside a check");
+    uint32_t a = 0;
+    while (a < TK_BANK_BYTES && offer[a] == key[a]) a++;
+    bool yes = a == TK_BANK_BYTES;
+    if (answer.numbers[0] != yes || answer.numbers[1] != (yes ? 0 : a)) fail("the lowest wrong address");
+    if (yes && answer.numbers[2] != TK_KEY_RIGHT) fail("something wrong with a right key");
+    if (yes || now.tile.mode >= 2) return;
+    uint32_t wrong = kept[a] && bank[a] != 0 && offer[a] == 0 ? TK_KEY_MISSING
+                     : !kept[a] && offer[a] != 0              ? TK_KEY_LEFT_OVER
+                                                              : TK_KEY_ANOTHER_VALUE;
+    if (answer.numbers[2] != wrong) fail("what is wrong");
+}
+
 /* What a writing answered and left. */
 static void check_written(void) {
     char text[TK_PAM_HEADER_MOST + 1];
@@ -1013,6 +1057,7 @@ static void check_counts(void) {
     if (now.entry == READ_PAM) check_read();
     if (now.entry == REJECTION) check_reason();
     if (now.entry == DECODE_LINEAR) check_linear();
+    if (now.entry == CHECK_KEY) check_checked();
     if (entries[now.does].takes & TAKES_LOAD) {
         check_load_counts();
         check_numbers();

@@ -21,6 +21,7 @@ pub mod Ranges
 pub mod Pick
 pub mod Allowed
 pub mod Visible
+pub mod Check
 pub mod Records
 pub mod ReplayTests
 pub mod Replay

@@ -6,10 +6,11 @@ use Rattle.rules.specs.Texdec.{accepted, acceptedDirect, formatOf}
 use Rattle.rules.specs.Sampling.{flag, texels}
 use Rattle.rules.specs.Load.{stored, written, list4, splitStores, wholeStores, wordStores, blockStores, tileStores, tlutStores}
 use Rattle.rules.specs.Load.{hardwareStores, entryStores, entryRow, rowStores, reasoned, madeUp}
-use Rattle.rules.specs.Calls.{blockCall, tileCall, tlutHardwareCall, tlutRowsCall, linearCall, samplingCall}
+use Rattle.rules.specs.Calls.{blockCall, tileCall, tlutHardwareCall, tlutRowsCall, linearCall, samplingCall, checkCall}
 use Rattle.rules.specs.Picture.{picture, visiblePicture, plain, plainRow, lookup, lookupRow, texel, paletted, direct}
 use Rattle.rules.specs.Linear.{linear, linearRow, linearTexel}
 use Rattle.rules.specs.Key.{key, keyOf, kept, keptCount}
+use Rattle.rules.specs.Check.{lowestWrong, wrongKind, checked}
 use Rattle.rules.specs.Reach.{rowBytes, trailingZeros, rowPeriod, reachRows, doubled, reachAt, reachRow, reachPlain, reachWhole}
 use Rattle.rules.specs.Reach.{reach, hasLoad, paletteOrder, firstReason, rejection}
 use Rattle.rules.specs.Refusal.{first, settle, callOr, call}
@@ -27,5 +28,5 @@ unfolding table tab tabFrom concat mem any distinct trail given andThen prepend 
     all same howMany madeUp entryStores entryRow blockCall numberAt isWritten
     rowBytes trailingZeros rowPeriod reachRows doubled reachAt reachRow reachPlain reachWhole reach hasLoad
     reasoned paletteOrder firstReason rejection tlutHardwareCall tlutRowsCall linearCall linear linearRow linearTexel over
-    tileCall samplingCall
+    tileCall samplingCall lowestWrong wrongKind checked checkCall
 worked = tt

@@ -18,6 +18,7 @@ use Rattle.rules.specs.Picture.{plain, lookup}
 use Rattle.rules.specs.Linear.{linearPair, linear}
 use Rattle.rules.specs.Reach.{reachMap, hasLoad, rejection, laneMap}
 use Rattle.rules.specs.Key.{key, keptCount}
+use Rattle.rules.specs.Check.{checked}
 
 -- The tests, by their numbers. "Number 9 is not given out again."
 
@@ -234,3 +235,7 @@ keyTests bank t mode lane out =
 unfoldable pub keyCall : List ℕ → Tile → ℕ → ℕ → List ℕ → Outcome
 keyCall bank t mode lane out =
     call (keyTests bank t mode lane out) (keptCount t mode lane bank ∷ []) (key t mode lane bank ∷ []) (out ∷ [])
+
+-- The check of an offered key: bank and offer are lent to be read. "Refusals: 1, 2, 3 and 5 as for the key itself, in that order."
+unfoldable pub checkCall : List ℕ → Tile → ℕ → ℕ → List ℕ → Outcome
+checkCall bank t mode lane offer = call (keyTests bank t mode lane offer) (checked t mode lane bank offer) [] []

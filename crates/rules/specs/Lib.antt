@@ -9,6 +9,7 @@ pub mod Picture
 pub mod Linear
 pub mod Reach
 pub mod Key
+pub mod Check
 pub mod Refusal
 pub mod Calls
 pub mod Lister

@@ -13,9 +13,9 @@ use Rattle.rules.specs.Texdec.{rgba16Texel, ia4Texel, ia8Texel}
 use Rattle.rules.specs.Sampling.{flag}
 use Rattle.rules.specs.Load.{Store, loadTile, stored, blockStores, tlutStores, Reason, ordinary, rejected, madeUp}
 use Rattle.rules.specs.Reach.{hasLoad, paletteOrder, rejection}
-use Rattle.rules.specs.Calls.{blockCall, tileCall, tlutHardwareCall, tlutRowsCall, linearCall, samplingCall}
+use Rattle.rules.specs.Calls.{blockCall, tileCall, tlutHardwareCall, tlutRowsCall, linearCall, samplingCall, checkCall}
 use Rattle.rules.specs.Picture.{picture, texel, rowStart}
-use Rattle.rules.specs.Key.{key, keptCount}
+use Rattle.rules.specs.Key.{key, keyOf, keptCount}
 use Rattle.rules.specs.Lister.{lineTo, listing}
 use Rattle.rules.specs.Replay.{fresh as start, carried, inFile, replayed, lines, recordsIn, replayText}
 
@@ -223,6 +223,14 @@ linearRefusal fmt siz palette width height stride size room =
 abbrev noWords : ℕ → Outcome
 noWords rows = tileCall fresh freshWritten freshReasons [] (tile 0 2 0 0 0 0) 2 rows 0 0 ordinary 0
 
+-- Document 02's item 13. I8, one texel: address 0 is kept and no other.
+abbrev i8One : Tile
+i8One = tile 4 1 0 0 1 1
+
+-- what the check says of an offer that has one byte and else zeros, for a bank that has one byte at address 0 and else zeros
+abbrev offered : ℕ → ℕ → ℕ → List ℕ
+offered inBank at byte = answers (checkCall (set fresh 0 inBank) i8One 0 0 (set fresh at byte))
+
 -- a list's length, its first and its last number
 abbrev endsOf : List ℕ → List ℕ
 endsOf l = length l ∷ getD l 0 0 ∷ getD l (length l - 1) 0 ∷ []
@@ -373,6 +381,20 @@ table =
     ∷ (flags (flag (tile 4 1 1 0 0 4096) 0) (flag (tile 4 1 2 0 0 4096) 0) (flag (tile 4 1 1 0 0 4096) 2) gives 1 ∷ 0 ∷ 0 ∷ [])
     ∷ (map (rowStart (tile 4 1 2 0 1 4096)) (1 ∷ 257 ∷ 4095 ∷ []) gives 16 ∷ 16 ∷ 4080 ∷ [])
     ∷ (map (λ rows. noWords rows .refusal) (1024 ∷ 1025 ∷ []) gives 0 ∷ 4 ∷ [])
+    -- a zero bank: the key is zeros; 5 at the kept address is another value, and at any other it is left over, the last one too
+    ∷ (offered 0 0 0 gives 0 ∷ 1 ∷ 0 ∷ 0 ∷ [])
+    ∷ (offered 0 0 5 gives 0 ∷ 0 ∷ 0 ∷ 3 ∷ [])
+    ∷ (offered 0 1 5 gives 0 ∷ 0 ∷ 1 ∷ 2 ∷ [])
+    ∷ (offered 0 4095 5 gives 0 ∷ 0 ∷ 4095 ∷ 2 ∷ [])
+    -- a bank that has 7 there: 7 is right, 5 is another value and 0 is missing; the lowest wrong address is named
+    ∷ (offered 7 0 7 gives 0 ∷ 1 ∷ 0 ∷ 0 ∷ [])
+    ∷ (offered 7 0 5 gives 0 ∷ 0 ∷ 0 ∷ 3 ∷ [])
+    ∷ (offered 7 9 5 gives 0 ∷ 0 ∷ 0 ∷ 1 ∷ [])
+    -- a wall's key from before item 4 is left over where the wall repeats
+    ∷ (answers (checkCall nines (wall 0) 0 0 (keyOf (picture (wall 0) 0 0) nines)) gives 0 ∷ 0 ∷ 2 ∷ 2 ∷ [])
+    -- as for the key, 1 tests the offer's length too
+    ∷ (answers (checkCall fresh i8One 4 0 (0 ∷ fresh)) gives 1 ∷ 0 ∷ 0 ∷ 0 ∷ [])
+    ∷ (answers (checkCall fresh i8One 4 0 fresh) gives 3 ∷ 0 ∷ 0 ∷ 0 ∷ [])
     ∷ []
 
 -- the two lists of every case are the same

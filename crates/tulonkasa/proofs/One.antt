@@ -3,10 +3,11 @@ use mathlib.Core.Path.{_≡_}
 use mathlib.Core.List.{[], _∷_}
 use denote.Ref.{now}
 use Rattle.rdp.proofs.Determined.{answered-determined, load-determined, size-determined, refusal-determined, sampling-determined}
-use Rattle.rdp.proofs.Determined.{reason-determined, replay-determined, split-determined, yes-determined}
+use Rattle.rdp.proofs.Determined.{check-determined, reason-determined, replay-determined, split-determined, yes-determined}
 use Rattle.tulonkasa.proofs.files.tk_write_pam.Reads as tk-write-pam
 use Rattle.tulonkasa.proofs.files.tk_read_pam.Reads as tk-read-pam
 use Rattle.tulonkasa.proofs.keys.tk_key.Reads as tk-key
+use Rattle.tulonkasa.proofs.keys.tk_check_key.Reads as tk-check-key
 use Rattle.tulonkasa.proofs.loads.tk_load_block.Reads as tk-load-block
 use Rattle.tulonkasa.proofs.loads.tk_load_tile.Reads as tk-load-tile
 use Rattle.tulonkasa.proofs.loads.tk_load_tlut_hardware.Reads as tk-load-tlut-hardware
@@ -39,6 +40,9 @@ tk-read-pam-one w a r s e f p q = size-determined _ r s _ _ p q
 pub tk-key-one : (w : _) (a : _) (r s : _) (e f : _) → tk-key.Post w a r e → tk-key.Post w a s f
     → (r ≡ s) × (now (e .1 .1 .1 .1 .1 .1 .1 .1 .1 .1 .1 .1 .1 .1 .0) ∷ [] ≡ now (f .1 .1 .1 .1 .1 .1 .1 .1 .1 .1 .1 .1 .1 .1 .0) ∷ [])
 tk-key-one w a r s e f p q = answered-determined _ r s _ _ p q
+
+pub tk-check-key-one : (w : _) (a : _) (r s : _) (e f : _) → tk-check-key.Post w a r e → tk-check-key.Post w a s f → r ≡ s
+tk-check-key-one w a r s e f p q = check-determined _ r s p q
 
 pub tk-load-block-one : (w : _) (a : _) (r s : _) (e f : _) → tk-load-block.Post w a r e → tk-load-block.Post w a s f
     → (r ≡ s) × (now (e .0) ∷ now (e .1 .0) ∷ now (e .1 .1 .0) ∷ [] ≡ now (f .0) ∷ now (f .1 .0) ∷ now (f .1 .1 .0) ∷ [])

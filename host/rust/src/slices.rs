@@ -1,6 +1,6 @@
 //! The archive's calls on lent slices of any length, for callers that keep their own buffers. `include/tulonkasa.h` says what
 //! each takes, refuses, answers and leaves. All of this crate's unsafe code is here.
-use crate::{ffi, Entry, Loaded, Refusal, Sampling, Tile, Totals, ENTRY_BYTES};
+use crate::{ffi, Checked, Entry, Loaded, Refusal, Sampling, Tile, Totals, ENTRY_BYTES};
 
 /// Calls an entry of [`ffi`]. Around the tile, whose twelve numbers are passed, stand numbers, and slices as `[slice]`
 /// to be read or `[mut slice]` to be written.
@@ -181,6 +181,13 @@ pub fn palette_nonreplicated(bank: &[u8], map: &mut [u8]) -> Result<(), Refusal>
 /// Overwrites the key, and answers the count of kept bytes.
 pub fn key(bank: &[u8], tile: &Tile, lane: u32, key: &mut [u8]) -> Result<u32, Refusal> {
     counted(call!(tk_key([bank], tile, lane, [mut key])))
+}
+
+/// Answers whether the offer is the key, and what is wrong with it where it is not.
+pub fn check_key(bank: &[u8], tile: &Tile, lane: u32, offer: &[u8]) -> Result<Checked, Refusal> {
+    let (offered, length) = (offer.as_ptr(), offer.len());
+    let answer = call!(tk_check_key([bank], tile, lane, offered, length));
+    Refusal::check(answer.refusal, Checked::from_numbers(answer.yes, answer.address, answer.wrong))
 }
 
 /// Does a record of a capture, and answers the count of its stores, or of the bytes that its key would keep. `last` is the number of the

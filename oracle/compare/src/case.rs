@@ -27,7 +27,30 @@ pub enum Call {
     Linear,
     /// The same, of a source whose tile load and picture give the same.
     RoundTrip,
+    CheckKey,
 }
+
+/// A key that is offered.
+#[derive(Clone, Copy, Debug, PartialEq, Eq)]
+pub enum Offer {
+    Right,
+    /// With the tile's masks taken as 0: the bytes that the whole picture reads, or, of a lookup, some others.
+    Whole,
+    Bank,
+    Zero,
+}
+
+pub const OFFERS: [Offer; 4] = [Offer::Right, Offer::Whole, Offer::Bank, Offer::Zero];
+
+/// How a byte of an offer is changed; any further number changes nothing.
+#[derive(Clone, Copy, Debug, PartialEq, Eq)]
+pub enum Change {
+    ToZero,
+    ToTheBanks,
+    ByABit,
+}
+
+pub const CHANGES: [Change; 3] = [Change::ToZero, Change::ToTheBanks, Change::ByABit];
 
 /// What a buffer that is lent to be read holds.
 #[derive(Clone, Copy, Debug, PartialEq, Eq)]
@@ -44,10 +67,12 @@ pub struct Case {
     pub call: Call,
     pub tile: Tile,
     pub lane: u32,
+    /// For `CheckKey`: what is offered, by its place in [`OFFERS`].
     pub image_siz: u32,
     /// dxt and words; or rows, words and stride; or count, rows and stride. For `TileHasLoad`: the word address, words and
     /// rows of the tile load that writes before the question. For `Rejection`: three addresses that have a reason; a larger number
-    /// for none. For `Linear` and `RoundTrip`: the stride.
+    /// for none. For `Linear` and `RoundTrip`: the stride. For `CheckKey`: three bytes of the offer that are changed, each 4,096 times the
+    /// [`Change`] and its address.
     pub numbers: [u32; 3],
     /// With a reason a load is a rejected one.
     pub reason: Option<u32>,
@@ -105,6 +130,14 @@ impl Case {
             Call::LoadTlutRows => Load::TlutRows { count: a, rows: b, stride: c },
             _ => Load::Tile { rows: a, words: b, stride: c },
         }
+    }
+
+    /// The bytes of the offer that are changed, with their addresses.
+    pub fn changes(&self) -> impl Iterator<Item = (Change, usize)> + '_ {
+        self.numbers.iter().filter_map(|&number| {
+            let (change, address) = (number as usize / 4096, number as usize % 4096);
+            Some((*CHANGES.get(change)?, address))
+        })
     }
 
     /// Whether the load is a palette's, which has a row at least.

@@ -1,6 +1,6 @@
 //! One case, done by the original and by the archive: answers, buffers, and bytes that must not have changed.
 use crate::buffers::{asked_reasons, found_reasons, Buffers};
-use crate::case::{descriptor, Call, Case, Fill};
+use crate::case::{descriptor, Call, Case, Change, Fill, Offer, OFFERS};
 use crate::input::Input;
 use crate::linear;
 use crate::numbers;
@@ -8,8 +8,9 @@ use crate::program::Program;
 use crate::random::Random;
 use crate::replay;
 use original::calls::{self, Bytes, Counted, Load, Map, Memory, Picture, Reach};
+use original::TileDescriptor;
 use std::ops::AddAssign;
-use tulonkasa::{slices, Loaded, Refusal, Sampling, Tile, LOOKUP_TEXELS, SIDE_MOST};
+use tulonkasa::{slices, Checked, Loaded, Refusal, Sampling, Tile, LOOKUP_TEXELS, SIDE_MOST};
 
 /// What a buffer that is lent to be written holds before.
 pub const BEFORE: u8 = 0xa5;
@@ -27,6 +28,7 @@ pub struct Amount {
     pub calls: u64,
     pub refused: u64,
     pub reasons: u64,
+    pub wrong: u64,
     pub stores: u64,
     pub made_up: u64,
     pub texels: u64,
@@ -38,6 +40,7 @@ impl AddAssign for Amount {
         self.calls += other.calls;
         self.refused += other.refused;
         self.reasons += other.reasons;
+        self.wrong += other.wrong;
         self.stores += other.stores;
         self.made_up += other.made_up;
         self.texels += other.texels;
@@ -94,6 +97,7 @@ impl Workspace {
             Call::Key => key(&self.bank, case),
             Call::Linear => self.linear(case),
             Call::RoundTrip => self.round_trip(case),
+            Call::CheckKey => check_key(&self.bank, case),
         }?;
         same("the bank that was lent to be read", &bank[..], &self.bank[..])?;
         Ok(Amount { calls: 1, ..amount })
@@ -373,6 +377,55 @@ fn key(bank: &Bytes, case: &Case) -> Result<Amount, String> {
     let refused = expected.is_none().into();
     same("the key", &expected.map_or([BEFORE; 4096], |(key, _)| key), &key)?;
     Ok(Amount { refused, ..Amount::default() })
+}
+
+/// What is due of an offer is told by the addresses that the original reads, and by the sentences of document 02's item 13.
+fn check_key(bank: &Bytes, case: &Case) -> Result<Amount, String> {
+    let (tile, mode, lane) = (descriptor(&case.tile), case.tile.mode as u8, case.lane as usize);
+    let reads = calls::visible_reads(bank, &tile, mode, lane);
+    // Of a pair that is not accepted any will do.
+    let mut offer = match OFFERS[case.image_siz as usize] {
+        Offer::Right => reads.map_or([0; 4096], |kept| calls::kept(bank, &kept)),
+        Offer::Whole => {
+            let whole = TileDescriptor { masks: 0, maskt: 0, ..tile };
+            calls::key(bank, &whole, mode, lane).map_or([0; 4096], |(key, _)| key)
+        }
+        Offer::Bank => *bank,
+        Offer::Zero => [0; 4096],
+    };
+    change(&mut offer, bank, case);
+    let lent = offer;
+    let answer = slices::check_key(bank, &case.tile, case.lane, &lent);
+    let due = reads.map(|kept| checked(bank, &kept, &offer)).ok_or(Refusal::Pair);
+    same_answer(due, answer)?;
+    same("the offer that was lent to be read", &offer, &lent)?;
+    let wrong = due.is_ok_and(|checked| !checked.is_right()).into();
+    Ok(Amount { refused: due.is_err().into(), wrong, ..Amount::default() })
+}
+
+/// Changes bytes of an offer.
+fn change(offer: &mut Bytes, bank: &Bytes, case: &Case) {
+    for (change, address) in case.changes() {
+        match change {
+            Change::ToZero => offer[address] = 0,
+            Change::ToTheBanks => offer[address] = bank[address],
+            Change::ByABit => offer[address] ^= 1 << (case.seed % 8),
+        }
+    }
+}
+
+/// The lowest address at which the offer is not the key, and which of the sentences holds there.
+fn checked(bank: &Bytes, kept: &[bool; 4096], offer: &Bytes) -> Checked {
+    let wrong = |address: &usize| offer[*address] != if kept[*address] { bank[*address] } else { 0 };
+    let Some(lowest) = (0..4096).find(wrong) else { return Checked::Right };
+    let address = lowest as u16;
+    if kept[lowest] && bank[lowest] != 0 && offer[lowest] == 0 {
+        Checked::Missing { address }
+    } else if !kept[lowest] && offer[lowest] != 0 {
+        Checked::LeftOver { address }
+    } else {
+        Checked::AnotherValue { address }
+    }
 }
 
 /// A needed length with a surplus, or one byte short.

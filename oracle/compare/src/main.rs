@@ -36,7 +36,7 @@ struct Work {
 }
 
 /// The kinds of comparison, as they are printed.
-const KINDS: [&str; 25] = [
+const KINDS: [&str; 26] = [
     "block loads",
     "tile loads",
     "TLUT loads",
@@ -59,6 +59,7 @@ const KINDS: [&str; 25] = [
     "linear, row by row",
     "linear, by the model",
     "loaded and sampled",
+    "checks of keys",
     "calls in a row",
     "replayed records",
     "replayed by program",
@@ -68,7 +69,7 @@ fn kind(input: &Input) -> usize {
     use original::calls::Picture::{Lookup, Plain};
     let case = match input {
         Input::Case(case) => case,
-        Input::Run(run) => return 22 + run.by as usize,
+        Input::Run(run) => return 23 + run.by as usize,
     };
     let rejected = usize::from(case.reason.is_some());
     match case.call {
@@ -90,6 +91,7 @@ fn kind(input: &Input) -> usize {
             Against::Nothing => 20,
         },
         Call::RoundTrip => 21,
+        Call::CheckKey => 22,
     }
 }
 
@@ -168,10 +170,11 @@ fn print(works: &[Work], seed: u64, took: Duration) {
 }
 
 fn words(amount: &Amount) -> String {
-    let Amount { calls, refused, reasons, stores, made_up, texels, reads } = *amount;
+    let Amount { calls, refused, reasons, wrong, stores, made_up, texels, reads } = *amount;
     let parts = [
         (refused, "of them refused"),
         (reasons, "reasons answered"),
+        (wrong, "wrong keys"),
         (stores, "stores"),
         (made_up, "made up"),
         (texels, "texels"),

@@ -1,7 +1,7 @@
 //! Random numbers by a seed, and random cases and runs: near the limits as often as not.
 use crate::capture::place::*;
 use crate::capture::{By, Companion, Record, Run, BLOCK, END_BYTES, KEY, RECORD_BYTES, TILE, TLUT};
-use crate::case::{Call, Case, Fill, Pieces};
+use crate::case::{Call, Case, Fill, Pieces, CHANGES};
 use crate::input::Input;
 use crate::linear;
 use original::calls::Picture;
@@ -112,6 +112,7 @@ impl Random {
             Call::TileHasLoad => [self.near(511), self.near(3), self.near(2)],
             Call::Rejection => std::array::from_fn(|_| self.reasoned_address(&case.tile)),
             Call::Linear | Call::RoundTrip => [self.stride(&case.tile), 0, 0],
+            Call::CheckKey => std::array::from_fn(|_| self.change(&case.tile)),
             _ => [0; 3],
         };
         if case.is_tlut() && self.to(1) == 0 {
@@ -122,6 +123,9 @@ impl Random {
         }
         if matches!(call, Call::LoadBlock | Call::LoadTile) || case.is_tlut() {
             case.reason = self.reason();
+        }
+        if call == Call::CheckKey {
+            case.image_siz = self.pick(&[0, 0, 0, 0, 1, 1, 2, 3]);
         }
         case.last = match call {
             Call::TileHasLoad => self.near(65534),
@@ -185,6 +189,14 @@ impl Random {
             3 => self.to(4095),
             4 => (2047 + 128 * tile.palette + self.near(129)).min(4095),
             _ => (8 * row + self.near(row_bytes + 1) + self.pick(&[0, 0, 0, 2048])) % 4096,
+        }
+    }
+
+    /// A changed byte of an offer: at an address as of a reason, or none.
+    fn change(&mut self, tile: &Tile) -> u32 {
+        match self.reasoned_address(tile) {
+            4096 => 4096 * CHANGES.len() as u32,
+            address => 4096 * self.to(CHANGES.len() as u32 - 1) + address,
         }
     }
 
@@ -294,4 +306,6 @@ const CALLS: [Call; 20] = [
     Call::Key,
     Call::Linear,
     Call::RoundTrip,
+    Call::CheckKey,
+    Call::CheckKey,
 ];

@@ -1,11 +1,11 @@
 //! Cases by structure: every pair, mode and lane with the limits of the sizes, tiles that repeat, the limits of every load, small loads
 //! from sources of every length, with every kind of last number and of reason, reasons about what a tile reaches, sources decoded without
-//! a bank, and those of which a load and its picture give the same.
+//! a bank, those of which a load and its picture give the same, and offered keys.
 //! Runs of records: the limits of every number, several faults at a time, palettes about the pick between the two loads, keys of tiles that
 //! repeat, sources at the companion's end, and loads over each other's bytes until no number is left.
 use crate::capture::place::*;
 use crate::capture::{By, Companion, Record, Run, BLOCK, KEY, RECORD_BYTES, TILE, TLUT};
-use crate::case::{Call, Case, Fill};
+use crate::case::{Call, Case, Fill, CHANGES, OFFERS};
 use crate::linear;
 use original::calls::Picture;
 use std::collections::BTreeSet;
@@ -129,6 +129,7 @@ pub fn cases() -> Vec<Case> {
     banks(&mut cases);
     linear_sources(&mut cases);
     round_trips(&mut cases);
+    offers(&mut cases);
     cases
 }
 
@@ -440,6 +441,40 @@ fn round_trips(cases: &mut Vec<Case>) {
             }
         }
     }
+}
+
+/// Offered keys: in every pair and mode the right one and others; and the right one with a byte changed in each way at the ends of what the
+/// tile touches, alone and with another byte changed beside it. Then those of tiles that repeat.
+fn offers(cases: &mut Vec<Case>) {
+    for pair in 0..32 {
+        for mode in 0..4 {
+            for (lane, [width, height, line, tmem_addr, masks]) in (0..4).cycle().zip(REASONED) {
+                let (fmt, siz, palette) = (pair / 4, pair % 4, pair % 16);
+                let tile = Tile { fmt, siz, palette, mode, masks, line, tmem_addr, width, height, ..Tile::default() };
+                cases.extend((0..OFFERS.len()).map(|which| Case { lane, ..check(tile, which, [UNCHANGED; 3]) }));
+                let fill = [Fill::Random, Fill::Zero, Fill::Rising][pair as usize % 3];
+                for (i, address) in ends(&tile).into_iter().enumerate() {
+                    let changed = (0..CHANGES.len() as u32).map(|change| 4096 * change + address);
+                    cases.extend(changed.map(|one| Case { fill, lane, ..check(tile, 0, [one, UNCHANGED, UNCHANGED]) }));
+                    let other = [0, 63, 64, 2047, 2048, 4031, 4032, 4095][i % 8];
+                    cases.push(Case { lane, ..check(tile, 0, [address, 4096 * 2 + other, UNCHANGED]) });
+                }
+            }
+        }
+    }
+    for texel in REPEATING {
+        for tile in repeating(texel) {
+            cases.extend([0, 1].map(|which| Case { lane: 2, ..check(tile, which, [UNCHANGED; 3]) }));
+        }
+    }
+}
+
+/// In place of a changed byte.
+const UNCHANGED: u32 = 4096 * CHANGES.len() as u32;
+
+/// The check of an offer, by its place among them.
+fn check(tile: Tile, which: usize, numbers: [u32; 3]) -> Case {
+    Case { image_siz: which as u32, numbers, ..Case::new(Call::CheckKey, tile) }
 }
 
 /// The most that some kind takes of each of a record's numbers.
