@@ -89,6 +89,7 @@ module _ (bank map reasons src : List ℕ) (t : Tile) (image dxt words rows stri
     nineless _ _ _ _ _ refl,
     nineless _ _ _ _ _ refl,
     nineless _ _ _ _ _ refl,
+    nineless _ _ _ _ _ refl,
     nineless _ _ _ _ _ (record-lacks end r _ refl),
     nineless _ _ _ _ _ (record-lacks end r _ refl),
     nineless _ _ _ _ _ refl,
