@@ -1,18 +1,19 @@
 -- Rows of a source: what a texel gives and reads, the bytes that a whole row has, and the rows one after the other.
 use mathlib.Core.Path.{_≡_, refl, ap, sym, _∙_}
 use mathlib.Core.Bool.{Bool, true, false, cond, true≢false}
-use mathlib.Core.List.{List}
+use mathlib.Core.List.{List, _++_, append-assoc}
 use Prim.Native.Nat.{ℕ, _+_, _*_, _/_, _%_, _<_, _≤_}
 use native.Mathlib.Nat.{mul-comm, mul-left-comm, mul-suc, mul-le-mul-left, le-refl}
 use native.Mathlib.Omega.{arith}
 use lib.Dec.{eqb}
-use lib.ListN.{length, getD}
+use lib.ListN.{length, getD, length-append}
 use lib.Seq.{take-all}
-use Rattle.rules.specs.Reading.{given, trail}
+use Rattle.rules.specs.Base.{over}
+use Rattle.rules.specs.Reading.{Reading, given, trail, upTo}
 use Rattle.rules.specs.Texdec.{Format, rgba16, rgba32, ci4, ci8, ci16, ia4, ia8, ia16, i4, i8, unknown, known, same4}
 use Rattle.rules.specs.Picture.{formatReads}
 use Rattle.rules.specs.Linear.{linearTexel}
-use Rattle.rules.proofs.Readings.{trail-length}
+use Rattle.rules.proofs.Readings.{given-more, trail-length}
 use Rattle.rules.proofs.Parts.{Parts, length-whole, given-parts}
 use Rattle.decoder.specs.Steps.{formatAt}
 use Rattle.decoder.specs.Rows.{four}
@@ -63,6 +64,10 @@ module _ (palette p x : ℕ) (src : List ℕ) where
       let g : List ℕ = given (linearTexel (formatAt place) palette p x) src in
       rw e (four-is g g (take-all (length g) g (le-refl (length g))) (linear-four (formatAt place) k))
 
+-- and so with those of two
+pub put-both : (ys old a b : List ℕ) {g h : List ℕ} → four a ≡ g → four b ≡ h → ys ≡ over (four a ++ four b) old → ys ≡ over (g ++ h) old
+put-both ys old a b {g} {h} e f p = p ∙ ap (λ l. over (l ++ four b) old) e ∙ ap (λ l. over (g ++ l) old) f
+
 -- more texels take no fewer bytes
 bytes-grow : (place m n : ℕ) → m ≤ n → linearBytes place m ≤ linearBytes place n
 bytes-grow place m n h = go (eqb (place % 4) 0)
@@ -111,6 +116,31 @@ module _ (place palette : ℕ) (src : List ℕ) (knows : known (formatAt place) 
   row-parts start =
       given-parts (linearTexel (formatAt place) palette start) src n 4
       (λ i. linear-four palette start i src (formatAt place) knows)
+
+  -- by pairs
+  pub pair-parts : (start : ℕ)
+      → Parts n
+      (λ k.
+      given (linearTexel (formatAt place) palette start (2 * k)) src
+      ++ given (linearTexel (formatAt place) palette start (2 * k + 1)) src)
+      (λ k. given (linearPart place palette start (2 * k)) src) 8
+  unfolding upTo given
+  pair-parts start =
+      record {
+        none = refl;
+        more = λ k h.
+            let two : 2 * (k + 1) ≡ 2 * k + 1 + 1 = omega arith in
+            rw (two, given-more texel src (2 * k + 1), given-more texel src (2 * k), append-assoc);
+        each = λ k h.
+            rw (
+              length-append,
+              linear-four palette start (2 * k) src (formatAt place) knows,
+              linear-four palette start (2 * k + 1) src (formatAt place) knows,
+            );
+      }
+    where
+      texel : ℕ → Reading
+      texel = linearTexel (formatAt place) palette start
 
 module _ (place palette stride width : ℕ) (src : List ℕ) where
   pub rows-parts : known (formatAt place) ≡ true → (n : ℕ)

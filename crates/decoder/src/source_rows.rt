@@ -1,12 +1,14 @@
 // Rows of a source. Each is written through the part of the lent picture that starts at its first byte.
 ghost use mathlib.Core.Path.{_≡_};
 ghost use mathlib.Core.Bool.{true, false};
+ghost use mathlib.Core.List.{_++_};
 ghost use Prim.Native.Nat.{_*_, _≤_};
 ghost use lib.ListN.{length};
 ghost use Rattle.rules.specs.Base.{over};
 ghost use Rattle.rules.specs.Reading.{given};
 ghost use Rattle.rules.specs.Texdec.{known};
 ghost use Rattle.decoder.specs.Steps.{formatAt};
+ghost use Rattle.decoder.specs.Rows.{four};
 ghost use Rattle.decoder.specs.Linear.{linearBytes, SourceRow, linearPart, linearRows};
 use crate::format::CI4;
 use crate::format::CI8;
@@ -56,6 +58,57 @@ fn decode_source_row(
     }
 }
 
+// Eight channels go to the front of the picture.
+fn put_two(first: [u8; 4], second: [u8; 4], out: &mut [u8])
+    requires { ⌜ 8 ≤ length (now out) ⌝ }
+    ensures { λ _. ⌜ now (out .exit) ≡ over (four first ++ four second) (now (out .entry)) ⌝ }
+{
+    out[0] = first[0];
+    out[1] = first[1];
+    out[2] = first[2];
+    out[3] = first[3];
+    out[4] = second[0];
+    out[5] = second[1];
+    out[6] = second[2];
+    out[7] = second[3];
+}
+
+// A whole row of pairs of texels, both of a pair at a step: two of four bits have one byte, which is then read once.
+fn decode_pairs(source: &[u8], place: u32, palette: u32, start: usize, pairs: usize, out: &mut [u8])
+    requires { ⌜ SourceRow (now source) true place palette start (2 * pairs) ⌝ }
+    requires { ⌜ 8 * pairs ≤ length (now out) ⌝ }
+    ensures { λ _. ⌜ now (out .exit)
+        ≡ over (given (linearPart place palette start (2 * pairs)) (now (source .entry))) (now (out .entry)) ⌝ }
+{
+    for k in 0..pairs {
+        let x = 2 * k;
+        let o = 8 * k;
+        let first = source_texel(source, true, place, palette, start, x);
+        let second = source_texel(source, true, place, palette, start, x + 1);
+        put_two(first, second, &mut out[o..]);
+    }
+}
+
+// A whole row of four bits a texel. One of an odd width goes texel by texel.
+fn decode_nibble_row(
+    source: &[u8],
+    place: u32,
+    palette: u32,
+    start: usize,
+    width: usize,
+    out: &mut [u8],
+)
+    requires { ⌜ SourceRow (now source) true place palette start width ⌝ }
+    requires { ⌜ 4 * width ≤ length (now out) ⌝ }
+    ensures { λ _. ⌜ now (out .exit) ≡ over (given (linearPart place palette start width) (now (source .entry))) (now (out .entry)) ⌝ }
+{
+    if width % 2 == 0 {
+        decode_pairs(source, place, palette, start, width / 2, out);
+        return;
+    }
+    decode_source_row(source, true, place, palette, start, width, out);
+}
+
 // A whole row. Its format is named, so that the compiler makes a loop for each.
 fn decode_whole_row(
     source: &[u8],
@@ -72,13 +125,13 @@ fn decode_whole_row(
     match place {
         RGBA16 => decode_source_row(source, true, RGBA16, palette, start, width, out),
         RGBA32 => decode_source_row(source, true, RGBA32, palette, start, width, out),
-        CI4 => decode_source_row(source, true, CI4, palette, start, width, out),
+        CI4 => decode_nibble_row(source, CI4, palette, start, width, out),
         CI8 => decode_source_row(source, true, CI8, palette, start, width, out),
         CI16 => decode_source_row(source, true, CI16, palette, start, width, out),
-        IA4 => decode_source_row(source, true, IA4, palette, start, width, out),
+        IA4 => decode_nibble_row(source, IA4, palette, start, width, out),
         IA8 => decode_source_row(source, true, IA8, palette, start, width, out),
         IA16 => decode_source_row(source, true, IA16, palette, start, width, out),
-        I4 => decode_source_row(source, true, I4, palette, start, width, out),
+        I4 => decode_nibble_row(source, I4, palette, start, width, out),
         I8 => decode_source_row(source, true, I8, palette, start, width, out),
         _ => decode_source_row(source, true, place, palette, start, width, out),
     }
