@@ -398,7 +398,7 @@ static size_t some_length(int i, size_t right) {
         case 1: return right == 0 ? 1 : right - 1;
         case 2: return right + 1;
         case 3: return others[up_to(2)];
-        default: return up_to((uint32_t)(room < SHORT_ROOM || one_in(64) ? room : SHORT_ROOM));
+        default: return up_to((uint32_t)(room < SHORT_ROOM || one_in(512) ? room : SHORT_ROOM));
     }
 }
 
@@ -712,7 +712,7 @@ static void choose_offer(void) {
 /* Lends every buffer that the entry takes. Picture, trail and file get what the tile needs as far as there is room, or more. */
 static void choose_lengths(void) {
     unsigned lent = entries[now.entry].read | entries[now.entry].written;
-    uint64_t count = texels() <= TK_SIDE_MOST * TK_SIDE_MOST ? texels() : 16;
+    uint64_t count = texels() <= SHORT_ROOM / 4 || !side_outside() ? texels() : 16;
     uint32_t each = now.tile.fmt < 8 && now.tile.siz < 4 ? reads_each() : 1;
     size_t header = now.entry == READ_PAM ? now.header.length : (size_t)written_header(NULL, 0);
     for (int i = 0; i < BUFFERS; i++) {
