@@ -42,7 +42,9 @@ add-source-byte-texel : tie.Need-add-source-byte-texel Inv-loop μ-loop
 add-source-byte-texel c = omega arith
 
 source-byte-texel-requires-2 : tie.Need-source-byte-texel-requires-2 Inv-loop μ-loop
-source-byte-texel-requires-2 c κs = let s = c .before .before in (start s .pre .1 .1, shorter (2 * s .loop .k + 1 + 1) (start s .pre .0) (omega arith))
+source-byte-texel-requires-2 c κs =
+    let s = c .before .before in
+    (start s .pre .1 .1, shorter (2 * s .loop .k + 1 + 1) (start s .pre .0) (omega arith))
 
 sub-put-two : tie.Need-sub-put-two Inv-loop μ-loop
 sub-put-two c = omega arith
@@ -71,8 +73,10 @@ loop-again c =
     let a = start s .args in
     let p = start s .pre in
     let k = p .0 .knows in
-    let first = put-linear (a .palette) (a .start) (2 * s .loop .k) (a .source .now) (a .place) _ k (t .before .source-byte-texel .ensures) in
-    let second = put-linear (a .palette) (a .start) (2 * s .loop .k + 1) (a .source .now) (a .place) _ k (t .source-byte-texel2 .ensures) in
+    let even = t .before .source-byte-texel .ensures in
+    let first = put-linear (a .palette) (a .start) (2 * s .loop .k) (a .source .now) (a .place) _ k even in
+    let odd = t .source-byte-texel2 .ensures in
+    let second = put-linear (a .palette) (a .start) (2 * s .loop .k + 1) (a .source .now) (a .place) _ k odd in
     let both = c .before .before .put-two .ensures in
     let put = put-both _ _ (t .before .source-byte-texel .result) (t .source-byte-texel2 .result) first second both in
     let row = pair-parts (a .place) (a .palette) (a .source .now) (p .0 .knows) (a .pairs) (a .start) in
