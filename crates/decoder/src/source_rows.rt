@@ -7,6 +7,7 @@ ghost use lib.ListN.{length};
 ghost use Rattle.rules.specs.Base.{over};
 ghost use Rattle.rules.specs.Reading.{given};
 ghost use Rattle.rules.specs.Texdec.{known};
+ghost use Rattle.rules.specs.Picture.{formatReads};
 ghost use Rattle.decoder.specs.Steps.{formatAt};
 ghost use Rattle.decoder.specs.Rows.{four};
 ghost use Rattle.decoder.specs.Linear.{linearBytes, SourceRow, linearPart, linearRows};
@@ -22,6 +23,7 @@ use crate::format::RGBA16;
 use crate::format::RGBA32;
 use crate::format::format_reads;
 use crate::rows::put_channels;
+use crate::source_texel::source_byte_texel;
 use crate::source_texel::source_texel;
 
 // The bytes that a row takes.
@@ -77,14 +79,15 @@ fn put_two(first: [u8; 4], second: [u8; 4], out: &mut [u8])
 fn decode_pairs(source: &[u8], place: u32, palette: u32, start: usize, pairs: usize, out: &mut [u8])
     requires { ⌜ SourceRow (now source) true place palette start (2 * pairs) ⌝ }
     requires { ⌜ 8 * pairs ≤ length (now out) ⌝ }
+    requires { ⌜ formatReads (formatAt place) ≡ 1 ⌝ }
     ensures { λ _. ⌜ now (out .exit)
         ≡ over (given (linearPart place palette start (2 * pairs)) (now (source .entry))) (now (out .entry)) ⌝ }
 {
     for k in 0..pairs {
         let x = 2 * k;
         let o = 8 * k;
-        let first = source_texel(source, true, place, palette, start, x);
-        let second = source_texel(source, true, place, palette, start, x + 1);
+        let first = source_byte_texel(source, true, place, palette, start, x);
+        let second = source_byte_texel(source, true, place, palette, start, x + 1);
         put_two(first, second, &mut out[o..]);
     }
 }
@@ -100,6 +103,7 @@ fn decode_nibble_row(
 )
     requires { ⌜ SourceRow (now source) true place palette start width ⌝ }
     requires { ⌜ 4 * width ≤ length (now out) ⌝ }
+    requires { ⌜ formatReads (formatAt place) ≡ 1 ⌝ }
     ensures { λ _. ⌜ now (out .exit) ≡ over (given (linearPart place palette start width) (now (source .entry))) (now (out .entry)) ⌝ }
 {
     if width % 2 == 0 {

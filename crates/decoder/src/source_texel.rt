@@ -54,7 +54,7 @@ fn byte_of(place: u32, x: usize) -> usize
 }
 
 // A texel of one byte, or of half of one.
-fn source_byte_texel(
+pub(crate) fn source_byte_texel(
     source: &[u8],
     whole: bool,
     place: u32,

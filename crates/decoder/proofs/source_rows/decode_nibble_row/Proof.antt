@@ -12,7 +12,7 @@ decode-pairs-requires c κs =
     let s = c .before .before .before .before in
     let w = s .args .width in
     let even : w % 2 ≡ 0 = c .before .if1 .taken in
-    (shorter (2 * (w / 2)) (s .pre .0) (omega arith), omega (arith, s .pre .1))
+    (shorter (2 * (w / 2)) (s .pre .0) (omega arith), (omega (arith, s .pre .1 .0), s .pre .1 .1))
 
 same-length : tie.Need-same-length
 same-length c = search needs

@@ -35,14 +35,16 @@ mul-x c = omega arith
 mul-o : tie.Need-mul-o Inv-loop μ-loop
 mul-o c = omega arith
 
-source-texel-requires : tie.Need-source-texel-requires Inv-loop μ-loop
-source-texel-requires c κs = let s = c .before in shorter (2 * s .loop .k + 1) (start s .pre .0) (omega arith)
+source-byte-texel-requires : tie.Need-source-byte-texel-requires Inv-loop μ-loop
+source-byte-texel-requires c κs = let s = c .before in (start s .pre .1 .1, shorter (2 * s .loop .k + 1) (start s .pre .0) (omega arith))
 
-add-source-texel : tie.Need-add-source-texel Inv-loop μ-loop
-add-source-texel c = omega arith
+add-source-byte-texel : tie.Need-add-source-byte-texel Inv-loop μ-loop
+add-source-byte-texel c = omega arith
 
-source-texel-requires-2 : tie.Need-source-texel-requires-2 Inv-loop μ-loop
-source-texel-requires-2 c κs = let s = c .before .before in shorter (2 * s .loop .k + 1 + 1) (start s .pre .0) (omega arith)
+source-byte-texel-requires-2 : tie.Need-source-byte-texel-requires-2 Inv-loop μ-loop
+source-byte-texel-requires-2 c κs =
+    let s = c .before .before in
+    (start s .pre .1 .1, shorter (2 * s .loop .k + 1 + 1) (start s .pre .0) (omega arith))
 
 sub-put-two : tie.Need-sub-put-two Inv-loop μ-loop
 sub-put-two c = omega arith
@@ -71,12 +73,14 @@ loop-again c =
     let a = start s .args in
     let p = start s .pre in
     let k = p .0 .knows in
-    let first = put-linear (a .palette) (a .start) (2 * s .loop .k) (a .source .now) (a .place) _ k (t .before .source-texel .ensures) in
-    let second = put-linear (a .palette) (a .start) (2 * s .loop .k + 1) (a .source .now) (a .place) _ k (t .source-texel2 .ensures) in
+    let even = t .before .source-byte-texel .ensures in
+    let first = put-linear (a .palette) (a .start) (2 * s .loop .k) (a .source .now) (a .place) _ k even in
+    let odd = t .source-byte-texel2 .ensures in
+    let second = put-linear (a .palette) (a .start) (2 * s .loop .k + 1) (a .source .now) (a .place) _ k odd in
     let both = c .before .before .put-two .ensures in
-    let put = put-both _ _ (t .before .source-texel .result) (t .source-texel2 .result) first second both in
+    let put = put-both _ _ (t .before .source-byte-texel .result) (t .source-byte-texel2 .result) first second both in
     let row = pair-parts (a .place) (a .palette) (a .source .now) (p .0 .knows) (a .pairs) (a .start) in
-    let o = again row (s .loop .k) _ _ _ (omega arith) (p .1) (s .loop .inv .1) put in
+    let o = again row (s .loop .k) _ _ _ (omega arith) (p .1 .0) (s .loop .inv .1) put in
     (omega arith, o .0, o .1)
 
 same-length : tie.Need-same-length Inv-loop μ-loop
@@ -94,9 +98,9 @@ decode-pairs-spec =
     loop-holds
     mul-x
     mul-o
-    source-texel-requires
-    add-source-texel
-    source-texel-requires-2
+    source-byte-texel-requires
+    add-source-byte-texel
+    source-byte-texel-requires-2
     sub-put-two
     part-put-two-start
     part-put-two-end

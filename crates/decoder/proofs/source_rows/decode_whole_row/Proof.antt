@@ -1,4 +1,5 @@
 -- `decoder::source_rows::decode_whole_row` is the row of its format, which is the one that is named. Assumes nothing.
+use mathlib.Core.Path.{refl}
 use borrow.Author.Needs.{needs}
 use Rattle.decoder.proofs.source_rows.decode_whole_row.Statement.{statement}
 use Rattle.decoder.proofs.source_rows.decode_whole_row.Tie as tie
@@ -10,7 +11,9 @@ decode-source-row-requires-2 : tie.Need-decode-source-row-requires-2
 decode-source-row-requires-2 c κs = let s = c .before .before .before .before in (rw (c .before .match .keys2) at (s .pre .0), s .pre .1)
 
 decode-nibble-row-requires : tie.Need-decode-nibble-row-requires
-decode-nibble-row-requires c κs = let s = c .before .before .before .before in (rw (c .before .match .keys3) at (s .pre .0), s .pre .1)
+decode-nibble-row-requires c κs =
+    let s = c .before .before .before .before in
+    (rw (c .before .match .keys3) at (s .pre .0), (s .pre .1, refl))
 
 decode-source-row-requires-3 : tie.Need-decode-source-row-requires-3
 decode-source-row-requires-3 c κs = let s = c .before .before .before .before in (rw (c .before .match .keys4) at (s .pre .0), s .pre .1)
@@ -19,7 +22,9 @@ decode-source-row-requires-4 : tie.Need-decode-source-row-requires-4
 decode-source-row-requires-4 c κs = let s = c .before .before .before .before in (rw (c .before .match .keys5) at (s .pre .0), s .pre .1)
 
 decode-nibble-row-requires-2 : tie.Need-decode-nibble-row-requires-2
-decode-nibble-row-requires-2 c κs = let s = c .before .before .before .before in (rw (c .before .match .keys6) at (s .pre .0), s .pre .1)
+decode-nibble-row-requires-2 c κs =
+    let s = c .before .before .before .before in
+    (rw (c .before .match .keys6) at (s .pre .0), (s .pre .1, refl))
 
 decode-source-row-requires-5 : tie.Need-decode-source-row-requires-5
 decode-source-row-requires-5 c κs = let s = c .before .before .before .before in (rw (c .before .match .keys7) at (s .pre .0), s .pre .1)
@@ -28,7 +33,9 @@ decode-source-row-requires-6 : tie.Need-decode-source-row-requires-6
 decode-source-row-requires-6 c κs = let s = c .before .before .before .before in (rw (c .before .match .keys8) at (s .pre .0), s .pre .1)
 
 decode-nibble-row-requires-3 : tie.Need-decode-nibble-row-requires-3
-decode-nibble-row-requires-3 c κs = let s = c .before .before .before .before in (rw (c .before .match .keys9) at (s .pre .0), s .pre .1)
+decode-nibble-row-requires-3 c κs =
+    let s = c .before .before .before .before in
+    (rw (c .before .match .keys9) at (s .pre .0), (s .pre .1, refl))
 
 decode-source-row-requires-7 : tie.Need-decode-source-row-requires-7
 decode-source-row-requires-7 c κs = let s = c .before .before .before .before in (rw (c .before .match .keys10) at (s .pre .0), s .pre .1)
