@@ -173,7 +173,7 @@ fn repeating_tiles(cases: &mut Vec<Case>) {
         for tile in repeating(texel) {
             let of = |call| Case { lane: 2, ..Case::new(call, tile) };
             cases.extend([Call::Sampling, Call::Reach, Call::Key].map(of));
-            if tile.width * tile.height <= 4096 {
+            if tile.width * tile.height <= 5 * SIDE_MOST {
                 cases.push(of(PICTURES[1]));
             }
         }
