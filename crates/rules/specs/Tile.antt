@@ -92,8 +92,7 @@ sized t width height =
 abbrev pub loadTileFrom : ℕ → ℕ → ℕ → ℕ → Tile
 loadTileFrom fmt siz line tmem-addr = tileFrom fmt siz 0 0 0 0 0 line tmem-addr 0 0
 
--- document 02's item 12: "Raise width and height to 4,096." No other line of the crates says how long a side may be, but the code's
--- own constant.
+-- document 02's item 12: "Raise width and height to 4,096." Bounds of sides are written from this; the code has its constant in `rdp`.
 abbrev pub sideLimit : ℕ
 sideLimit = 4096
 
