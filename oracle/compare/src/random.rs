@@ -285,7 +285,7 @@ impl Random {
 }
 
 /// The calls, each as often as it is to be tried.
-const CALLS: [Call; 20] = [
+const CALLS: [Call; 22] = [
     Call::LoadBlock,
     Call::LoadTile,
     Call::LoadTlut,
