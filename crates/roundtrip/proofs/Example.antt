@@ -1,4 +1,4 @@
--- Tiles that meet the theorem's conditions: 8 by 256 texels of I8, the largest whole line; and (0,3) up to the last word.
+-- Tiles that meet the theorem's conditions: 16 by 256 texels of I8, which fill the bank; and (0,3) up to the last word of each half.
 use mathlib.Core.Path.{_≡_, refl}
 use mathlib.Core.List.{List, [], _∷_}
 use Prim.Native.Nat.{ℕ}

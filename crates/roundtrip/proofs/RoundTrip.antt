@@ -124,7 +124,7 @@ module _ (t : Tile) (mode lane stride : ℕ) (src bank : List ℕ) (fits : Fits 
         c : WholeLoad (imageTile (t .siz) (loadTile t)) (t .siz) (t .height) (rowWords t)
         c =
             whole-load (t .fmt) (t .siz) (t .line) (t .tmem-addr) (t .height) (t .width) small (facts t fits .rgba) n
-            (fits .row-fits) (rw n at (fits .lines-inside))
+            (omega (arith, fits .row-fits)) (omega (arith, rw n at (fits .lines-inside)))
 
         bytes : (r s q : ℕ) → q < 8 * rowWords t → r ≡ rowStart t y + q → s ≡ y * stride + q
             → getD after (address 4096 (8 * t .tmem-addr) (odd y) r) 0 ≡ getD src s 0
