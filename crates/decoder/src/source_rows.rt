@@ -163,7 +163,7 @@ fn decode_past_row(
     }
 }
 
-// A row, whole or cut by the source's end.
+// A row: whole, past the source's end, or cut by it.
 fn paint_source_row(
     source: &[u8],
     place: u32,
