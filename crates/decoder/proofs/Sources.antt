@@ -1,16 +1,16 @@
 -- Rows of a source: what a texel gives and reads, the bytes that a whole row has, and the rows one after the other.
 use mathlib.Core.Path.{_≡_, refl, ap, sym, _∙_}
 use mathlib.Core.Bool.{Bool, true, false, cond, true≢false}
-use mathlib.Core.List.{List, _++_, append-assoc}
+use mathlib.Core.List.{List, [], _++_, append-assoc}
 use Prim.Native.Nat.{ℕ, _+_, _*_, _/_, _%_, _<_, _≤_}
 use native.Mathlib.Nat.{mul-comm, mul-left-comm, mul-suc, mul-le-mul-left, le-refl}
 use native.Mathlib.Omega.{arith}
 use lib.Dec.{eqb}
-use lib.ListN.{length, getD, length-append}
+use lib.ListN.{length, getD, length-append, List·getD-eq-default}
 use lib.Seq.{take-all}
 use Rattle.rules.specs.Base.{over}
 use Rattle.rules.specs.Reading.{Reading, given, trail, upTo}
-use Rattle.rules.specs.Texdec.{Format, rgba16, rgba32, ci4, ci8, ci16, ia4, ia8, ia16, i4, i8, unknown, known, same4}
+use Rattle.rules.specs.Texdec.{Format, rgba16, rgba32, ci4, ci8, ci16, ia4, ia8, ia16, i4, i8, unknown, known, same4, nibble}
 use Rattle.rules.specs.Picture.{formatReads}
 use Rattle.rules.specs.Linear.{linearTexel}
 use Rattle.rules.proofs.Readings.{given-more, trail-length}
@@ -63,6 +63,38 @@ module _ (palette p x : ℕ) (src : List ℕ) where
   put-linear place l k e =
       let g : List ℕ = given (linearTexel (formatAt place) palette p x) src in
       rw e (four-is g g (take-all (length g) g (le-refl (length g))) (linear-four (formatAt place) k))
+
+-- a row past the source's end gives what none gives, whichever texel it is
+module _ (palette p x : ℕ) (src : List ℕ) (h : length src ≤ p) where
+  zero : (a : ℕ) → p ≤ a → getD src a 0 ≡ 0
+  zero a l = List·getD-eq-default src 0 (omega arith)
+
+  none : nibble x 0 ≡ 0
+  none = go (eqb (x % 2) 0)
+    where
+      go : (b : Bool) → cond b (0 / 16) (0 % 16) ≡ 0
+      go true = refl
+      go false = refl
+
+  pub past-gives : (f : Format) → given (linearTexel f palette p x) src ≡ given (linearTexel f palette 0 0) []
+  unfolding linearTexel given
+  past-gives rgba16 = rw (zero (p + 2 * x) (omega arith), zero (p + 2 * x + 1) (omega arith)) refl
+  past-gives rgba32 =
+      rw (
+        zero (p + 4 * x) (omega arith),
+        zero (p + 4 * x + 1) (omega arith),
+        zero (p + 4 * x + 2) (omega arith),
+        zero (p + 4 * x + 3) (omega arith),
+      ) refl
+  past-gives ci4 = rw (zero (p + x / 2) (omega arith), none) refl
+  past-gives ci8 = rw (zero (p + x) (omega arith)) refl
+  past-gives ci16 = rw (zero (p + 2 * x) (omega arith), zero (p + 2 * x + 1) (omega arith)) refl
+  past-gives ia4 = rw (zero (p + x / 2) (omega arith), none) refl
+  past-gives ia8 = rw (zero (p + x) (omega arith)) refl
+  past-gives ia16 = rw (zero (p + 2 * x) (omega arith), zero (p + 2 * x + 1) (omega arith)) refl
+  past-gives i4 = rw (zero (p + x / 2) (omega arith), none) refl
+  past-gives i8 = rw (zero (p + x) (omega arith)) refl
+  past-gives unknown = refl
 
 -- and so with those of two
 pub put-both : (ys old a b : List ℕ) {g h : List ℕ} → four a ≡ g → four b ≡ h → ys ≡ over (four a ++ four b) old → ys ≡ over (g ++ h) old

@@ -2,7 +2,7 @@
 ghost use mathlib.Core.Path.{_≡_};
 ghost use mathlib.Core.Bool.{true, false};
 ghost use mathlib.Core.List.{_++_};
-ghost use Prim.Native.Nat.{_*_, _≤_};
+ghost use Prim.Native.Nat.{_*_, _<_, _≤_};
 ghost use lib.ListN.{length};
 ghost use Rattle.rules.specs.Base.{over};
 ghost use Rattle.rules.specs.Reading.{given};
@@ -141,7 +141,29 @@ fn decode_whole_row(
     }
 }
 
-// A row, whole or cut by the source's end.
+// A row that starts at or past the source's end: one texel again and again.
+fn decode_past_row(
+    source: &[u8],
+    place: u32,
+    palette: u32,
+    start: usize,
+    width: usize,
+    out: &mut [u8],
+)
+    requires { ⌜ SourceRow (now source) false place palette start width ⌝ }
+    requires { ⌜ 4 * width ≤ length (now out) ⌝ }
+    requires { ⌜ length (now source) ≤ start ⌝ }
+    requires { ⌜ 0 < width ⌝ }
+    ensures { λ _. ⌜ now (out .exit) ≡ over (given (linearPart place palette start width) (now (source .entry))) (now (out .entry)) ⌝ }
+{
+    let channels = source_texel(source, false, place, palette, start, 0);
+    for x in 0..width {
+        let o = 4 * x;
+        put_channels(channels, &mut out[o..]);
+    }
+}
+
+// A row: whole, past the source's end, or cut by it.
 fn paint_source_row(
     source: &[u8],
     place: u32,
@@ -157,6 +179,10 @@ fn paint_source_row(
 {
     if start + row_bytes(place, width) <= source.len() {
         decode_whole_row(source, place, palette, start, width, out);
+        return;
+    }
+    if (source.len() <= start) & (0 < width) {
+        decode_past_row(source, place, palette, start, width, out);
         return;
     }
     decode_source_row(source, false, place, palette, start, width, out);
