@@ -1,6 +1,6 @@
 -- Document 02's items 4 and 13: a key made whole, as before item 4, of a tile that repeats is left over at the first byte past the visible
 -- part that is not zero, and right where there is none.
-use mathlib.Core.Path.{_≡_, refl, ap, sym, _∙_}
+use mathlib.Core.Path.{_≡_, refl, sym, _∙_}
 use mathlib.Core.Bool.{Bool, true, false, cond, true≢false}
 use mathlib.Core.List.{List, [], _∷_}
 use Prim.Native.Nat.{ℕ, _+_, _<_, _≤_}
@@ -14,10 +14,10 @@ use Rattle.rules.specs.Sampling.{flag}
 use Rattle.rules.specs.Reading.{Reading, trail, upTo}
 use Rattle.rules.specs.Picture.{column, rowStart, texel, paletted, plainRow, plain, picture, visiblePicture}
 use Rattle.rules.specs.Key.{keyOf, key}
-use Rattle.rules.specs.Check.{wrongKind, checked}
+use Rattle.rules.specs.Check.{checked}
 use Rattle.rules.proofs.Keys.{length-key, key-byte}
 use Rattle.rules.proofs.Visible.{side-le}
-use Rattle.rules.proofs.Check.{FirstWrong, yes-means, left-over-means, no-at}
+use Rattle.rules.proofs.Check.{yes-means, left-over-means, no-at}
 use Rattle.key.proofs.Lift.{found}
 use Rattle.key.proofs.Period.{covered}
 

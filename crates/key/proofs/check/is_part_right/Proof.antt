@@ -7,7 +7,7 @@ use native.Mathlib.Omega.{arith}
 use borrow.Author.Needs.{needs}
 use Rattle.rules.proofs.Ranges.{both}
 use Rattle.key.specs.Offer.{wrongBy}
-use Rattle.key.proofs.Offers.{NoneBelow, none-yet, none-more, found-none}
+use Rattle.key.proofs.Offers.{NoneBelow, none-more, found-none}
 use Rattle.key.proofs.check.is_part_right.Statement.{statement}
 use Rattle.key.proofs.check.is_part_right.Tie as tie
 

@@ -1,5 +1,5 @@
 -- `key::check::lowest_wrong` goes from part to part. The loop's invariant: the parts before `part` are right. Assumes nothing.
-use mathlib.Core.Path.{_≡_, sym, _∙_}
+use mathlib.Core.Path.{_≡_}
 use Prim.Native.Nat.{_+_, _-_, _*_, _≤_}
 use native.Mathlib.Omega.{arith}
 use borrow.Author.Needs.{needs}
