@@ -68,8 +68,8 @@ module _ (bank map reasons src : List ℕ) (t : Tile) (image dxt words rows stri
       × Nineless (pamReadCall file picture)
       × Nineless (splitCall count entries out)
   unfolding call callOr blockCall tileCall tlutHardwareCall tlutRowsCall samplingCall reachCall hasLoadCall rejectionCall laneCall
-      pictureCall observedCall linearCall keyCall checkCall checked lineTo numberCall listCall tested outcome replayCall runCall pamWriteCall
-      pamReadCall splitCall
+      pictureCall observedCall linearCall keyCall checkCall checked lineTo numberCall listCall tested outcome replayCall runCall
+      pamWriteCall pamReadCall splitCall
   no-nine = (
     nineless _ _ _ _ _ refl,
     nineless _ _ _ _ _ refl,

@@ -96,8 +96,7 @@ loadTileFrom fmt siz line tmem-addr = tileFrom fmt siz 0 0 0 0 0 line tmem-addr 
 abbrev pub linearTileFrom : ℕ → ℕ → ℕ → ℕ → ℕ → Tile
 linearTileFrom fmt siz palette width height = tileFrom fmt siz palette 0 0 0 0 0 0 width height
 
--- document 02's item 12: "Raise width and height to 4,096." No other line of the crates says how long a side may be, but the code's
--- own constant.
+-- document 02's item 12: "Raise width and height to 4,096." Bounds of sides are written from this; the code has its constant in `rdp`.
 abbrev pub sideLimit : ℕ
 sideLimit = 4096
 
