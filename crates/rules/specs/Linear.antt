@@ -1,4 +1,4 @@
--- The linear decoders: a picture read straight from a source (001 and combiner.rs; document 02's item 11).
+-- The linear decoders of texdec.rs and combiner.rs: a picture read straight from a source (document 02's item 11).
 use mathlib.Core.Bool.{Bool, not, _&&_}
 use mathlib.Core.List.{[], _∷_}
 use Prim.Native.Nat.{ℕ, _+_, _*_, _/_}
