@@ -2,9 +2,10 @@
  *
  * The texture memory is a bank of 4,096 bytes. The library loads it (block, tile, palette) and records which load wrote each
  * byte, and the reason if that load's source was rejected. It makes pictures of the bank, says which of its bytes a tile can
- * reach, and cuts a key for a picture: the bank with the bytes kept that making its visible part reads, and all others zero.
- * It writes a picture as a file for other programs, and reads such files. It replays a capture, which is a file of records of
- * such loads and keys. It also splits captures into tuning and held-out ones by their keys.
+ * reach, and cuts a key for a picture: the bank with the bytes kept that making its visible part reads, and all others zero. It
+ * checks a key that was made elsewhere. It decodes a source straight to the picture that a load of it gives, without a bank. It
+ * writes a picture as a file for other programs, and reads such files. It replays a capture, which is a file of records of such
+ * loads and keys. It also splits captures into tuning and held-out ones by their keys.
  *
  * Rules that hold for every call:
  *
@@ -42,11 +43,11 @@ extern "C" {
 #define TK_LANE_MAP_BYTES 32   /* a lane map: slot j is bit j % 8 of byte j / 8 */
 #define TK_PALETTE_BASE 2048   /* where the palette begins in a bank */
 #define TK_LOOKUP_TEXELS 16384 /* the texels of a lookup */
-#define TK_SOURCE_MOST 65536   /* a load's source has at most this many bytes */
+#define TK_SOURCE_MOST 65536   /* a source, of a load or of a decoding, has at most this many bytes */
 #define TK_LOADS_MOST 65535    /* so many loads have numbers, 1 to this */
 #define TK_REASON_MOST 255     /* a rejected load has a reason from 1 to this */
-#define TK_SIDE_MOST 1024      /* width and height, of a tile or a picture, are at most this */
-#define TK_TEXEL_READS_MOST 4  /* a texel reads at most this many bytes of the bank */
+#define TK_SIDE_MOST 4096      /* width and height, of a tile or a picture, are at most this */
+#define TK_TEXEL_READS_MOST 4  /* a texel reads at most this many bytes of the bank or of a source */
 #define TK_RECORD_BYTES 48     /* a record of a capture */
 #define TK_ENTRY_BYTES 4117    /* an entry of a split: 4 and 16 bytes, the lane's byte, and a key */
 #define TK_ENTRIES_MOST 4096   /* a split has at most this many entries */
@@ -62,8 +63,8 @@ enum {
     TK_REFUSED_LENGTH = 1,       /* a bank, key, written record, reach map, lane map or the reasons have not their length */
     TK_REFUSED_TILE = 2,         /* a field of the tile is out of range, or a side of a picture is above TK_SIDE_MOST */
     TK_REFUSED_MODE_OR_LANE = 3, /* mode or lane is above 3 */
-    TK_REFUSED_LOAD = 4,         /* a number of the load, or the length of its source, is out of range */
-    TK_REFUSED_PAIR = 5,         /* the mode does not accept this pair of format and size */
+    TK_REFUSED_LOAD = 4,         /* a number of the load or the decoding, or the length of its source, is out of range */
+    TK_REFUSED_PAIR = 5,         /* the mode does not accept this pair of format and size, or it has no linear reading */
     TK_REFUSED_PICTURE = 6,      /* the picture's buffer is shorter than 4 bytes a texel, or the file's than the file */
     TK_REFUSED_TRAIL = 7,        /* the trail's buffer is shorter than 2 bytes a read */
     TK_REFUSED_TORN = 8,         /* a capture's record has fewer than 48 bytes, or a program's input ends inside a record */
@@ -79,9 +80,19 @@ enum {
     TK_REFUSED_REASON = 19       /* the reason of a rejected load is 0, or above TK_REASON_MOST */
 };
 
+/* ---- What is wrong with an offered key ------------------------------------------------------------------------------ */
+
+/* A byte is kept where the visible picture reads it (see Keys), whatever the bank has there. */
+enum {
+    TK_KEY_RIGHT = 0,        /* nothing is */
+    TK_KEY_MISSING = 1,      /* the byte is kept and not zero in the bank, but zero in the offer */
+    TK_KEY_LEFT_OVER = 2,    /* the byte is not kept, and the offer has not zero there */
+    TK_KEY_ANOTHER_VALUE = 3 /* any other difference: the byte is kept, and the offer has another one, not zero */
+};
+
 /* ---- Answers -------------------------------------------------------------------------------------------------------- */
 
-/* count: a picture's reads, a key's kept bytes, or a file's bytes */
+/* count: a picture's reads, of a bank or of a source; a key's kept bytes; or a file's bytes */
 typedef struct tk_answer {
     uint32_t refusal;
     uint32_t count;
@@ -134,6 +145,16 @@ typedef struct tk_reason_answer {
     uint32_t refusal;
     uint32_t reason;
 } tk_reason_answer;
+
+/* yes: 1 if the offered key is right, else 0. address: where it is not, the lowest address at which it is wrong, below TK_BANK_BYTES.
+ * wrong: what is wrong there, TK_KEY_MISSING, TK_KEY_LEFT_OVER or TK_KEY_ANOTHER_VALUE. Of a right key both are 0, and of a refused call
+ * all three. */
+typedef struct tk_check_answer {
+    uint32_t refusal;
+    uint32_t yes;
+    uint32_t address;
+    uint32_t wrong;
+} tk_check_answer;
 
 /* tuning, held_out: how many entries are on each side. They add up to the count of entries. */
 typedef struct tk_split_answer {
@@ -273,7 +294,7 @@ tk_sampling_answer tk_sampling(TK_TILE_PARAMETERS);
  * The calls named .._observed also write the trail: each address that was read, in order, as two bytes, high byte first. An
  * odd last byte of its buffer is left unused. */
 
-/* The plain picture: width by height texels. */
+/* The plain picture: width by height texels. The largest has 64 MiB, and the longest trail 128 MiB. */
 tk_answer tk_sample_tile(const uint8_t *bank, size_t bank_length, TK_TILE_PARAMETERS, uint32_t lane, uint8_t *picture,
                          size_t picture_length);
 
@@ -286,6 +307,39 @@ tk_answer tk_sampling_lookup(const uint8_t *bank, size_t bank_length, TK_TILE_PA
 
 tk_answer tk_sampling_lookup_observed(const uint8_t *bank, size_t bank_length, TK_TILE_PARAMETERS, uint32_t lane,
                                       uint8_t *picture, size_t picture_length, uint8_t *trail, size_t trail_length);
+
+/* ---- Pictures of a source ------------------------------------------------------------------------------------------- */
+
+/* Decodes a source straight to a picture, without a bank: width by height texels of four bytes, as above. Texel (x, y) is read from
+ * the source's row y, which begins y stride bytes into the source. Bytes at or past its end are zero. For format and size
+ *
+ *     (0,2)         bytes 2 x and 2 x + 1 of the row: red, green and blue of five bits each, and alpha of one
+ *     (0,3)         bytes 4 x to 4 x + 3: red, green, blue, alpha
+ *     (2,0)         half of byte x / 2, the upper one for even x: 16 palette and the half, in all channels
+ *     (2,1)         byte x, in all channels
+ *     (2,2)         bytes 2 x and 2 x + 1, twice
+ *     (3,0), (4,0)  half of byte x / 2, the upper one for even x: three bits of intensity and one of alpha; intensity
+ *     (3,1), (4,1)  byte x: four bits of intensity and four of alpha; intensity
+ *     (3,2)         bytes 2 x and 2 x + 1: intensity and alpha
+ *
+ * An indexed texel is the index itself, since there is no palette to look it up in. Each row begins with a byte of its own, so that of
+ * an odd width of 4-bit texels the last half of a row's last byte is not read.
+ *
+ * What goes in comes out: this is the picture that tk_sample_tile makes in mode 0 or 1, in any lane, after a tile load of the same
+ * source and stride into any bank, where
+ *
+ * - image_siz is the tile's siz, and the load has height rows, of as many words each as the width needs: width over 16, 8, 4 or 2
+ *   for siz 0, 1, 2 or 3, rounded up;
+ * - height is at most 256;
+ * - a row fits the line: width is at most 16, 8 or 4 times line for siz 0, 1, and 2 or 3;
+ * - all lines are inside the bank: tmem_addr + height line is at most 512, or 256 for (0,3).
+ *
+ * Of a tile it takes fmt, siz, palette, width and height. stride: 0..65,535 source bytes from row to row. A picture buffer longer than
+ * needed keeps its further bytes.
+ * Refuses 2 (these five), 4 (stride, or a source longer than TK_SOURCE_MOST), 5 (a pair that is not listed above), 6. Answers the
+ * count of source bytes that were asked for, those past its end too: 1, 2 or 4 a texel. */
+tk_answer tk_decode_linear(const uint8_t *source, size_t source_length, uint32_t fmt, uint32_t siz, uint32_t palette,
+                           uint32_t width, uint32_t height, uint32_t stride, uint8_t *picture, size_t picture_length);
 
 /* ---- Pictures as files ---------------------------------------------------------------------------------------------- */
 
@@ -362,6 +416,20 @@ uint32_t tk_palette_nonreplicated(const uint8_t *bank, size_t bank_length, uint8
 tk_answer tk_key(const uint8_t *bank, size_t bank_length, TK_TILE_PARAMETERS, uint32_t lane, uint8_t *key,
                  size_t key_length);
 
+/* Whether `offer` is the key that tk_key cuts for the same bank, tile, mode and lane: yes exactly if all its bytes are. For keys that
+ * another program made, with the bank that each was cut from.
+ *
+ * On a no it names the lowest address at which the offer is wrong, and says what is wrong there; at every lower address the offer is
+ * right. What is kept is what the visible picture reads, so a zero of the bank can be kept. With a bank of zeros and a tile of which
+ * address 0 is kept, an offer with 5 there has another value, and one with 5 at address 1 has a byte left over.
+ *
+ * A key that keeps a repeating tile whole is not right. It is left over at the first byte past the visible columns and rows that is not
+ * zero in the bank; where there is none, it is right.
+ *
+ * Both buffers are read, and none is changed. Refuses as tk_key does, and in its order: 1 (bank, offer), 2, 3, 5. */
+tk_check_answer tk_check_key(const uint8_t *bank, size_t bank_length, TK_TILE_PARAMETERS, uint32_t lane,
+                             const uint8_t *offer, size_t offer_length);
+
 /* ---- Replay of a capture -------------------------------------------------------------------------------------------- */
 
 /* Does one record of a capture: a load, as tk_load_.. do it, or the question for a picture's key. The sources of all loads
@@ -433,7 +501,7 @@ tk_split_answer tk_split(uint32_t count, const uint8_t *entries, size_t entries_
 
 /* ---- The same calls on a tk_tile ------------------------------------------------------------------------------------ */
 
-/* Here a bank or key is a pointer to TK_BANK_BYTES, a written record to TK_WRITTEN_BYTES, reasons to TK_REASON_BYTES, a reach map
+/* Here a bank, key or offer is a pointer to TK_BANK_BYTES, a written record to TK_WRITTEN_BYTES, reasons to TK_REASON_BYTES, a reach map
  * to TK_MAP_BYTES, a lane map to TK_LANE_MAP_BYTES, a capture's record to TK_RECORD_BYTES, entries to TK_ENTRY_BYTES each, sides
  * to a byte each. */
 
@@ -514,6 +582,12 @@ static inline tk_answer tk_sampling_lookup_observed_of(const uint8_t *bank, cons
                                        trail_length);
 }
 
+static inline tk_answer tk_decode_linear_of(const tk_tile *tile, const uint8_t *source, size_t source_length,
+                                            uint32_t stride, uint8_t *picture, size_t picture_length) {
+    return tk_decode_linear(source, source_length, tile->fmt, tile->siz, tile->palette, tile->width, tile->height, stride,
+                            picture, picture_length);
+}
+
 /* Of the tile, width and height: those of its plain picture. */
 static inline tk_answer tk_write_pam_of(const tk_tile *tile, const uint8_t *picture, size_t picture_length, uint8_t *file,
                                         size_t file_length) {
@@ -534,6 +608,11 @@ static inline uint32_t tk_palette_nonreplicated_of(const uint8_t *bank, uint8_t 
 
 static inline tk_answer tk_key_of(const uint8_t *bank, const tk_tile *tile, uint32_t lane, uint8_t *key) {
     return tk_key(bank, TK_BANK_BYTES, TK_TILE_ARGUMENTS(tile), lane, key, TK_BANK_BYTES);
+}
+
+static inline tk_check_answer tk_check_key_of(const uint8_t *bank, const tk_tile *tile, uint32_t lane,
+                                              const uint8_t *offer) {
+    return tk_check_key(bank, TK_BANK_BYTES, TK_TILE_ARGUMENTS(tile), lane, offer, TK_BANK_BYTES);
 }
 
 static inline tk_replay_answer tk_replay_record_of(uint8_t *bank, uint8_t *written, uint8_t *reasons, const uint8_t *record,

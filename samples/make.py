@@ -24,7 +24,7 @@ BLOCK, TILE, TLUT, KEY = range(4)
 
 # the most that a field may be, in a tile and in a load of each kind
 TILE_MOST = dict(
-    fmt=7, siz=3, palette=15, cms=3, cmt=3, masks=15, maskt=15, line=511, tmem_addr=511, width=1024, height=1024
+    fmt=7, siz=3, palette=15, cms=3, cmt=3, masks=15, maskt=15, line=511, tmem_addr=511, width=4096, height=4096
 )
 LOADED = ("fmt", "siz", "line", "tmem_addr")
 LOAD_MOST = {
@@ -207,7 +207,7 @@ def odd_ones(game, count):
         game.clutter()
         game.take(fmt=YUV, siz=2, mode=2, line=4, width=16, height=16)
         game.take(fmt=YUV, siz=2, line=4, width=16, height=16)
-        game.take(fmt=RGBA, siz=2, line=8, width=1280 + frame, height=32)
+        game.take(fmt=RGBA, siz=2, line=8, width=5120 + frame, height=32)
 
 
 def bricks(game, count):
@@ -247,13 +247,19 @@ def cases():
     made.append(record(mixed, fmt=I, siz=1, cms=2, masks=5, line=2, width=16, height=16))
     made.append(record(mixed, fmt=I, siz=1, line=1, width=8, height=257))
     made.append(record(mixed, fmt=I, siz=1, line=2, width=8, height=257))
-    # odd rows, an entry of a lookup table, four bytes a texel, no texel, and the largest picture
+    # odd rows, an entry of a lookup table, four bytes a texel, no texel, and what was the largest picture once
     made.append(record(ones, fmt=I, siz=0, line=1, width=1, height=2))
     made.append(record(bytes([3]) + zeros[1:], fmt=CI, siz=1, mode=2, width=1, height=1))
     made.append(record(mixed, fmt=CI, siz=0, palette=15, mode=3, line=2, tmem_addr=200, width=32, height=32))
     made.append(record(mixed, fmt=RGBA, siz=3, line=4, tmem_addr=255, width=16, height=17))
     made.append(record(mixed, fmt=IA, siz=2, line=4, width=0, height=9))
     made.append(record(mixed, fmt=RGBA, siz=2, line=510, tmem_addr=511, width=1024, height=1024))
+    # one more on each side, which was refused then; the longest sides, and the largest picture. Rows repeat every 256
+    for width, height in ((1025, 1), (1, 1025), (4096, 1), (1, 4096), (4096, 4096)):
+        made.append(record(mixed, fmt=I, siz=1, line=2, width=width, height=height))
+    # of the longest rows half is shown, all, and a lookup
+    for masks in (11, 12, 13):
+        made.append(record(mixed, fmt=I, siz=1, masks=masks, line=2, width=4096, height=1))
     # a wall that repeats every sixteen columns, under four widths and mirrored, keeps 256 bytes; clamped it keeps 304
     wall = dict(fmt=I, siz=1, masks=4, line=2, height=16)
     for width in (16, 32, 64, 128):
@@ -521,7 +527,7 @@ def refused():
     made += [case("5 0", KEY, fmt=YUV, siz=2, mode=0), case("5 0", KEY, fmt=7, siz=3, mode=1)]
     made.append(case("0 12", KEY, fmt=7, siz=3))
     # 2 before 3, 4, 11 and 5
-    made += [case("2 0", KEY, width=1025, mode=4), case("2 0", KEY, fmt=YUV, siz=2, mode=0, line=512)]
+    made += [case("2 0", KEY, width=4097, mode=4), case("2 0", KEY, fmt=YUV, siz=2, mode=0, line=512)]
     made += [case("2 0", BLOCK, fmt=8, words=2049), case("2 0", TILE, line=512, image=4)]
     made += [case("2 0", TLUT, tmem_addr=512, rows=0), case("2 0", BLOCK, siz=4, offset=END)]
     # 3 before 5

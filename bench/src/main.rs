@@ -1,7 +1,8 @@
 //! The original Rust and the archive side by side, in one process and on the same inputs, as Markdown tables. Where the original has
 //! no such call, plain Rust stands for it.
 //!
-//!     bench ROUNDS
+//!     bench ROUNDS            # all tables but the next
+//!     bench ROUNDS growth     # how pictures, trails, keys and files grow, up to the longest sides
 mod timing;
 
 use original::calls::{self, Load, Memory, Picture};
@@ -15,6 +16,9 @@ use tulonkasa::{slices, Tile, LOOKUP_TEXELS, REASON_BYTES, SIDE_MOST, WRITTEN_BY
 const GOAL: f64 = 0.5;
 const GOAL_PICTURES_AND_LOADS: f64 = 0.25;
 const GOAL_SPLITS: f64 = 2.0;
+
+/// The goal for the ratio of a check of a key to the key call itself.
+const GOAL_CHECKS: f64 = 1.2;
 
 /// No split should take longer, in nanoseconds.
 const SPLIT_MOST: f64 = 100e6;
@@ -31,23 +35,37 @@ struct Bench {
 }
 
 fn main() -> ExitCode {
-    let Some(Ok(rounds)) = std::env::args().nth(1).map(|rounds| rounds.parse()) else {
-        eprintln!("usage: bench ROUNDS");
+    let words: Vec<_> = std::env::args().skip(1).collect();
+    let (growth, rounds) = match &words[..] {
+        [rounds] => (false, rounds.parse()),
+        [rounds, growth] if growth == "growth" => (true, rounds.parse()),
+        _ => (false, "".parse()),
+    };
+    let Ok(rounds) = rounds else {
+        eprintln!("usage: bench ROUNDS [growth]");
         return ExitCode::from(2);
     };
+    let texels = if growth { (SIDE_MOST * SIDE_MOST) as usize } else { LOOKUP_TEXELS };
     let mut bench = Bench {
         rounds,
         bank: bytes(4096).try_into().expect("4,096 bytes"),
-        picture: vec![0; 4 * LOOKUP_TEXELS],
-        trail: vec![0; 8 * LOOKUP_TEXELS],
+        picture: vec![0; 4 * texels],
+        trail: vec![0; 8 * texels],
         above: Vec::new(),
     };
+    if growth {
+        bench.growth();
+        return ExitCode::SUCCESS;
+    }
     bench.pictures();
     bench.sizes();
     bench.lookups();
+    bench.linear();
     bench.loads();
     bench.others();
-    bench.files();
+    bench.checks();
+    println!();
+    bench.files(&[64, 1024]);
     bench.splits();
     bench.conclude();
     ExitCode::SUCCESS
@@ -104,6 +122,18 @@ fn square(fmt: u32, siz: u32, mode: u32) -> Tile {
     Tile { fmt, siz, mode, palette: 3, line: 4 << siz.min(2), width: 64, height: 64, ..Tile::default() }
 }
 
+/// Tiles whose keys are cut and checked.
+fn keyed() -> [(&'static str, Tile); 6] {
+    [
+        ("16-bit tile of 64 by 64", square(0, 2, 0)),
+        ("8-bit tile of 64 by 64", square(4, 1, 0)),
+        ("32-bit tile of 64 by 64", square(0, 3, 0)),
+        ("palette tile of 64 by 64", square(2, 1, 2)),
+        ("lookup, palette", square(1, 1, 2)),
+        ("8-bit tile of 1,024 by 1,024", Tile { width: 1024, height: 1024, ..square(4, 1, 0) }),
+    ]
+}
+
 /// Every pair that a mode accepts.
 fn accepted(mode: u32) -> Vec<(u32, u32)> {
     if mode < 2 {
@@ -151,6 +181,26 @@ impl Bench {
                 println!("| {side} by {side} | {mode} | ({fmt},{siz}) | {row} |");
             }
         }
+    }
+
+    /// Squares and a strip, of an even line, so that a key is that of the plain picture.
+    fn growth(&mut self) {
+        println!("Pictures alone, with their trails, and keys, by the count of texels. Nanoseconds a call.\n");
+        println!(
+            "| texels | mode | pair | Rust | archive | ratio | Rust, trail | archive, trail | ratio | Rust, key | archive, key | ratio |"
+        );
+        println!("|---|---|---|---|---|---|---|---|---|---|---|---|");
+        for (mode, (fmt, siz)) in [(0, (0, 2)), (0, (0, 3)), (0, (4, 1)), (2, (2, 1))] {
+            for (width, height) in [(64, 64), (256, 256), (1024, 1024), (SIDE_MOST, SIDE_MOST), (64, SIDE_MOST)] {
+                let tile = Tile { width, height, ..square(fmt, siz, mode) };
+                let alone = cells(self.race_picture(&tile, Picture::Plain));
+                let observed = cells(self.race_observed(&tile, Picture::Plain));
+                let key = cells(self.race_key(&tile));
+                println!("| {width} by {height} | {mode} | ({fmt},{siz}) | {alone} | {observed} | {key} |");
+            }
+        }
+        println!();
+        self.files(&[64, 256, 1024, SIDE_MOST]);
     }
 
     fn lookups(&mut self) {
@@ -218,6 +268,45 @@ impl Bench {
                 .expect("accepted");
             },
         )
+    }
+
+    /// Rows one behind the other, and of 4-bit texels of an even width, since the original takes no others.
+    fn linear(&mut self) {
+        println!("\nSources decoded without a bank, nanoseconds a picture. Of (0,3), which the original does not have, beside a copy.\n");
+        println!("| texels | pair | source | Rust | archive | ratio |");
+        println!("|---|---|---|---|---|---|");
+        let pairs = DIRECT.into_iter().filter(|&pair| pair != (2, 3));
+        let whole = pairs.map(|pair| (pair, 64, "whole"));
+        let some = [(0, 2), (2, 0), (3, 1), (4, 1)];
+        let sizes = [1, 8, 16, 128].into_iter().flat_map(|side| some.map(|pair| (pair, side, "whole")));
+        let cut = some[1..].iter().map(|&pair| (pair, 64, "half"));
+        for (pair, side, source) in whole.chain(sizes).chain(cut) {
+            self.linear_row(pair, side, source);
+        }
+    }
+
+    fn linear_row(&mut self, (fmt, siz): (u32, u32), side: u32, of_source: &str) {
+        let tile = Tile { width: side, height: side, ..square(fmt, siz, 0) };
+        let old = descriptor(&tile);
+        let stride = (side << siz).div_ceil(2);
+        let whole = bytes((side * stride) as usize);
+        let source = &whole[..if of_source == "half" { whole.len() / 2 } else { whole.len() }];
+        let plain =
+            |source: &[u8]| if siz == 3 { source.to_vec() } else { calls::linear(source, &old).expect("a decoder") };
+        let (rounds, picture) = (self.rounds, &mut self.picture);
+        slices::decode_linear(source, &tile, stride, picture).expect("in range");
+        assert_eq!(picture[..4 * (side * side) as usize], plain(source)[..]);
+        let pair = race(
+            rounds,
+            || used(plain(black_box(source))),
+            || {
+                let picture = black_box(&mut picture[..]);
+                black_box(slices::decode_linear(black_box(source), black_box(&tile), stride, picture)).expect("in range");
+            },
+        );
+        let name = format!("linear, {side} by {side}, ({fmt},{siz}), {of_source} source");
+        let cells = if siz == 3 { cells(pair) } else { self.judge(name, pair, GOAL) };
+        println!("| {side} by {side} | ({fmt},{siz}) | {of_source} | {cells} |");
     }
 
     fn loads(&mut self) {
@@ -297,16 +386,38 @@ impl Bench {
             self.reach_and_has_load(name, &tile);
         }
         self.rejections();
-        for (name, tile) in [
-            ("16-bit tile of 64 by 64", square(0, 2, 0)),
-            ("8-bit tile of 64 by 64", square(4, 1, 0)),
-            ("32-bit tile of 64 by 64", square(0, 3, 0)),
-            ("palette tile of 64 by 64", square(2, 1, 2)),
-            ("lookup, palette", square(1, 1, 2)),
-            ("8-bit tile of 1,024 by 1,024", Tile { width: 1024, height: 1024, ..square(4, 1, 0) }),
-        ] {
+        for (name, tile) in keyed() {
             self.key(name, &tile);
         }
+    }
+
+    /// The archive's own key call stands beside its check.
+    fn checks(&mut self) {
+        println!("\nChecks of offered keys, nanoseconds a check, beside the archive's own key call.\n");
+        println!("| offer | key | check | ratio |");
+        println!("|---|---|---|---|");
+        let one = Tile { width: 1, height: 1, ..square(4, 1, 0) };
+        for (name, tile) in [("8-bit tile of one texel", one)].into_iter().chain(keyed()) {
+            let mut right = [0; 4096];
+            slices::key(&self.bank, &tile, 1, &mut right).expect("accepted");
+            self.check_row(format!("right, {name}"), &tile, &right);
+            for address in [0, 4095] {
+                let mut offer = right;
+                offer[address] ^= 1;
+                self.check_row(format!("wrong at {address}, {name}"), &tile, &offer);
+            }
+        }
+    }
+
+    fn check_row(&mut self, name: String, tile: &Tile, offer: &[u8; 4096]) {
+        let (bank, mut key) = (self.bank, [0; 4096]);
+        let pair = race(
+            self.rounds,
+            || used(slices::key(black_box(&bank), black_box(tile), 1, black_box(&mut key)).expect("accepted")),
+            || used(slices::check_key(black_box(&bank), black_box(tile), 1, black_box(offer)).expect("accepted")),
+        );
+        let cells = self.judge(format!("check, {name}"), pair, GOAL_CHECKS);
+        println!("| {name} | {cells} |");
     }
 
     fn row(&mut self, name: String, pair: Pair) {
@@ -400,29 +511,29 @@ impl Bench {
     }
 
     fn key(&mut self, name: &str, tile: &Tile) {
+        let pair = self.race_key(tile);
+        self.row(format!("key, {name}"), pair);
+    }
+
+    fn race_key(&self, tile: &Tile) -> Pair {
         let (old, mode, bank) = (descriptor(tile), tile.mode as u8, self.bank);
         let mut key = [0; 4096];
-        let pair = race(
+        race(
             self.rounds,
             || used(calls::key(black_box(&bank), black_box(&old), mode, 1)),
             || {
                 black_box(slices::key(black_box(&bank), black_box(tile), 1, black_box(&mut key))).expect("accepted");
             },
-        );
-        self.row(format!("key, {name}"), pair);
+        )
     }
 
     /// The original has no files. The second writer and reader stand for it, and a copy of the texels alone.
-    fn files(&self) {
-        println!("\nPAM files, nanoseconds a file, beside the plain Rust of `oracle/pam` and a copy of the texels alone. No goal.\n");
+    fn files(&self, sides: &[u32]) {
+        println!("PAM files, nanoseconds a file, beside the plain Rust of `oracle/pam` and a copy of the texels alone. No goal.\n");
         println!("| call | texels | Rust | archive | ratio | copy | archive | ratio |");
         println!("|---|---|---|---|---|---|---|---|");
-        for side in [64, SIDE_MOST] {
-            self.write_row(side);
-        }
-        for side in [64, SIDE_MOST] {
-            self.read_row(side);
-        }
+        sides.iter().for_each(|&side| self.write_row(side));
+        sides.iter().for_each(|&side| self.read_row(side));
     }
 
     fn write_row(&self, side: u32) {
@@ -492,8 +603,8 @@ impl Bench {
 
     fn conclude(&self) {
         println!(
-            "\nGoals: {GOAL_PICTURES_AND_LOADS} for pictures and loads, {GOAL_SPLITS} for splits and {} ms, {GOAL} for the others. \
-             Above them: {}.",
+            "\nGoals: {GOAL_PICTURES_AND_LOADS} for pictures and loads, {GOAL_CHECKS} for checks beside keys, {GOAL_SPLITS} for splits \
+             and {} ms, {GOAL} for the others. Above them: {}.",
             SPLIT_MOST / 1e6,
             self.above.len()
         );

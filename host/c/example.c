@@ -1,7 +1,8 @@
-/* An example: load a block, make a picture of it, write the picture as a file and read it back, cut the picture's key, and print
- * the bytes that the key keeps. Then load one word anew, and print which load each byte that the picture reads came from. Then do
- * a load whose source was rejected, and ask which tiles touch it. Then load a palette in each of the two ways. Then replay a capture
- * of the first load and the key, and split six captures of the tile. */
+/* An example: load a block, make a picture of it, decode the same source without a bank, write the picture as a file and read it
+ * back, cut the picture's key, and print the bytes that the key keeps. Then check some keys that another program might have made.
+ * Then load one word anew, and print which load each byte that the picture reads came from. Then do a load whose source was
+ * rejected, and ask which tiles touch it. Then load a palette in each of the two ways. Then replay a capture of the first load and
+ * the key, and split six captures of the tile. */
 
 #include <inttypes.h>
 #include <stdio.h>
@@ -19,9 +20,17 @@ static void print_load(tk_load_answer loaded) {
     printf("load %" PRIu32 ": stores: %" PRIu32 ", made up: %" PRIu32 "\n", loaded.number, loaded.count, loaded.made_up);
 }
 
+/* Prints what a check says of an offered key. */
+static void print_check(const char *offer, tk_check_answer checked) {
+    static const char *const kinds[] = {"right", "missing", "left over", "another value"};
+    printf("%s: %s", offer, kinds[checked.wrong]);
+    if (!checked.yes) printf(" at %" PRIu32, checked.address);
+    printf("\n");
+}
+
 int main(void) {
     static uint8_t bank[TK_BANK_BYTES], written[TK_WRITTEN_BYTES], reasons[TK_REASON_BYTES];
-    static uint8_t key[TK_BANK_BYTES], picture[4 * 4 * 2];
+    static uint8_t key[TK_BANK_BYTES], picture[4 * 4 * 2], straight[sizeof picture];
     static uint8_t file[TK_PAM_HEADER_MOST + sizeof picture], again[sizeof file];
 
     /* Two rows of four texels of 16 bits: red, green, magenta and white, then the same backwards. */
@@ -53,13 +62,19 @@ int main(void) {
         printf("\n");
     }
 
+    /* The same picture straight from the source, whose rows are eight bytes apart: what went in has come out. */
+    tk_answer decoded = tk_decode_linear_of(&tile, source, sizeof source, 8, straight, sizeof straight);
+    if (refused("decoding", decoded.refusal)) return 1;
+    int same = memcmp(straight, picture, sizeof picture) == 0;
+    printf("straight from the source: reads: %" PRIu32 ", %s texels\n", decoded.count, same ? "the same" : "other");
+
     /* A PAM file in memory: fwrite would put its first saved.count bytes on a disk. A reader need not know the size. */
     tk_answer saved = tk_write_pam_of(&tile, picture, sizeof picture, file, sizeof file);
     if (refused("writing", saved.refusal)) return 1;
     printf("file: %" PRIu32 " bytes\n", saved.count);
     tk_size_answer read = tk_read_pam(file, saved.count, again, sizeof again);
     if (refused("reading", read.refusal)) return 1;
-    int same = memcmp(again, picture, sizeof picture) == 0;
+    same = memcmp(again, picture, sizeof picture) == 0;
     printf("read back: %" PRIu32 " by %" PRIu32 ", %s texels\n", read.width, read.height, same ? "the same" : "other");
 
     tk_answer cut = tk_key_of(bank, &tile, 0, key);
@@ -69,6 +84,18 @@ int main(void) {
     for (uint32_t a = 0; a < TK_BANK_BYTES; a++) {
         if (key[a] != 0) printf("%" PRIu32 ": %02x\n", a, key[a]);
     }
+
+    /* Keys that another program might have made: the right one; one with a byte behind the picture; without the picture's last
+     * byte as well; and with another value before it. The lowest wrong address is named. */
+    tk_check_answer checked = tk_check_key_of(bank, &tile, 0, key);
+    if (refused("check", checked.refusal)) return 1;
+    print_check("key", checked);
+    key[16] = 1;
+    print_check("a byte more", tk_check_key_of(bank, &tile, 0, key));
+    key[15] = 0;
+    print_check("a byte less", tk_check_key_of(bank, &tile, 0, key));
+    key[3] ^= 1;
+    print_check("a bit changed", tk_check_key_of(bank, &tile, 0, key));
 
     /* The second row again, from a source that was cut short. The number of the load before is passed. */
     load.tmem_addr = 1;

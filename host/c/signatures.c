@@ -35,6 +35,11 @@ static tk_tile with(tk_tile tile, size_t place, uint32_t number) {
     return tile;
 }
 
+/* Whether a check is refused by a number, and answers nothing else. */
+static int check_refused(tk_check_answer answer, uint32_t refusal) {
+    return answer.refusal == refusal && answer.yes + answer.address + answer.wrong == 0;
+}
+
 /* Each of the twelve arrives whole and in its place: its limit is taken, and one past it refused, by 3 for the mode (the
  * fourth), else by 2. A number of 2^32 - 1 is refused as well, so all 32 bits arrive. */
 static void check_the_twelve(void) {
@@ -60,6 +65,7 @@ static void check_the_twelve(void) {
             CHECK(tk_sampling_lookup_observed_of(bank, bad[k], 0, picture, sizeof picture, trail, sizeof trail).refusal ==
                   refusal);
             CHECK(tk_key_of(bank, bad[k], 0, key).refusal == refusal);
+            CHECK(check_refused(tk_check_key_of(bank, bad[k], 0, key), refusal));
         }
     }
 }
@@ -266,6 +272,10 @@ static void check_lengths(void) {
     CHECK(tk_key(bank, 4095, TK_TILE_ARGUMENTS(t), 0, key, 4096).refusal == 1);
     CHECK(tk_key(bank, 4096, TK_TILE_ARGUMENTS(t), 0, key, 4095).refusal == 1);
     CHECK(tk_key_of(bank, t, 4, key).refusal == 3);
+    CHECK(check_refused(tk_check_key(bank, 4095, TK_TILE_ARGUMENTS(t), 0, key, 4096), 1));
+    CHECK(check_refused(tk_check_key(bank, 4096, TK_TILE_ARGUMENTS(t), 0, key, 4095), 1));
+    CHECK(check_refused(tk_check_key(bank, 4096, TK_TILE_ARGUMENTS(t), 0, long_buffer, 4097), 1));
+    CHECK(check_refused(tk_check_key_of(bank, t, 4, key), 3));
     CHECK(tk_sample_tile(bank, 4095, TK_TILE_ARGUMENTS(t), 0, picture, 24).refusal == 1);
     CHECK(tk_sample_tile_of(bank, t, 4, picture, 24).refusal == 3);
     CHECK(tk_sample_tile_of(bank, t, 0, picture, 23).refusal == 6);
@@ -324,6 +334,68 @@ static void check_files(void) {
     CHECK(tk_read_pam(file, length, picture, 24).refusal == 14);
 }
 
+/* A decoding of a source. Of the tile it takes five numbers: each up to its limit, and no further; the others may hold anything. */
+static void check_linear_limits(void) {
+    static const uint32_t most[12] = {[0] = 7, [1] = 3, [2] = 15, [10] = TK_SIDE_MOST, [11] = TK_SIDE_MOST};
+    for (size_t i = 0; i < 12; i++) {
+        tk_tile full = with(plain_tile(), i, most[i]), past = with(plain_tile(), i, most[i] + 1),
+                far = with(plain_tile(), i, UINT32_MAX);
+        uint32_t taken = i < 2 ? 5 : 0, refusal = most[i] == 0 ? 0 : 2; /* fmt 7, and I of siz 3, are no accepted pairs */
+        CHECK(tk_decode_linear_of(&full, source, sizeof source, 4, picture, sizeof picture).refusal == taken);
+        CHECK(tk_decode_linear_of(&past, source, sizeof source, 4, picture, sizeof picture).refusal == refusal);
+        CHECK(tk_decode_linear_of(&far, source, sizeof source, 4, picture, sizeof picture).refusal == refusal);
+    }
+    tk_tile tile = plain_tile(), bad_tile = with(tile, 2, 16), bad_pair = with(with(tile, 0, 2), 1, 3);
+    static const uint32_t bad_strides[] = {65536, UINT32_MAX};
+    CHECK(tk_decode_linear_of(&tile, part, TK_SOURCE_MOST, 65535, picture, 24).refusal == 0);
+    CHECK(tk_decode_linear_of(&tile, part, TK_SOURCE_MOST + 1, 4, picture, 24).refusal == 4);
+    CHECK(tk_decode_linear_of(&tile, part, 8, 4, picture, 23).refusal == 6);
+    for (size_t i = 0; i < 2; i++) {
+        CHECK(tk_decode_linear_of(&tile, part, 8, bad_strides[i], picture, 24).refusal == 4);
+        CHECK(tk_decode_linear_of(&bad_tile, part, 8, bad_strides[i], picture, 24).refusal == 2);
+        CHECK(tk_decode_linear_of(&bad_pair, part, 8, bad_strides[i], picture, 24).refusal == 4);
+    }
+    CHECK(tk_decode_linear_of(&bad_pair, part, 8, 4, picture, 23).refusal == 5);
+}
+
+/* Whether a decoding of the source's first bytes, 12 bytes a row, answers so many reads, and these bytes stand in front of the picture,
+ * and no others were changed. */
+static int decoded(uint32_t fmt, uint32_t siz, size_t length, uint32_t reads, const uint8_t *texels, size_t texel_bytes) {
+    uint32_t width = (uint32_t)texel_bytes / 8;
+    memset(picture, 9, sizeof picture);
+    tk_answer answer = tk_decode_linear(source, length, fmt, siz, 5, width, 2, 12, picture, sizeof picture);
+    return answer.refusal == 0 && answer.count == reads && memcmp(picture, texels, texel_bytes) == 0 &&
+           picture[texel_bytes] == 9 && picture[sizeof picture - 1] == 9;
+}
+
+/* What a decoding answers and leaves: two rows of the source, the second cut short. */
+static void check_linear_answers(void) {
+    static const uint8_t rgba32[] = {18, 52, 86, 120, 154, 188, 0, 0},
+                         ci8[] = {18, 18, 18, 18, 52, 52, 52, 52, 154, 154, 154, 154, 188, 188, 188, 188};
+    static const uint8_t rgba16[] = {16, 66, 214, 0, 156, 82, 247, 0}, ia16[] = {18, 18, 18, 52, 154, 154, 154, 188};
+    static const uint8_t ci4[] = {81, 81, 81, 81, 82, 82, 82, 82, 83, 83, 83, 83,
+                                  89, 89, 89, 89, 90, 90, 90, 90, 91, 91, 91, 91};
+    static const uint8_t ia4[] = {0, 0, 0, 255, 36, 36, 36, 0, 146, 146, 146, 255, 182, 182, 182, 0};
+    static const uint8_t i4[] = {17, 17, 17, 17, 34, 34, 34, 34, 153, 153, 153, 153, 170, 170, 170, 170};
+    static const uint8_t ia8[] = {17, 17, 17, 34, 153, 153, 153, 170};
+    static const uint8_t ci16[] = {18, 52, 18, 52, 86, 120, 86, 120, 154, 188, 154, 188, 0, 0, 0, 0};
+    memset(source, 7, sizeof source);
+    memcpy(source, "\x12\x34\x56\x78", 4);
+    memcpy(source + 12, "\x9a\xbc", 2);
+    CHECK(decoded(0, 3, 14, 8, rgba32, sizeof rgba32));
+    CHECK(decoded(0, 2, 14, 4, rgba16, sizeof rgba16));
+    CHECK(decoded(2, 0, 14, 6, ci4, sizeof ci4));
+    CHECK(decoded(2, 1, 14, 4, ci8, sizeof ci8));
+    CHECK(decoded(2, 2, 14, 8, ci16, sizeof ci16));
+    CHECK(decoded(3, 0, 14, 4, ia4, sizeof ia4));
+    CHECK(decoded(3, 1, 14, 2, ia8, sizeof ia8));
+    CHECK(decoded(3, 2, 14, 4, ia16, sizeof ia16));
+    CHECK(decoded(4, 0, 14, 4, i4, sizeof i4));
+    CHECK(decoded(4, 1, 14, 4, ci8, sizeof ci8)); /* the intensity in all channels, as the index */
+    tk_answer answer = tk_decode_linear(source, 14, 2, 3, 5, 1, 2, 12, picture, sizeof picture);
+    CHECK(answer.refusal == 5 && answer.count == 0 && picture[0] == 18 && picture[16] == 9);
+}
+
 /* What the pictures answer and leave on success, of a bank whose bytes are their addresses. */
 static void check_picture_answers(const tk_tile *tile) {
     /* Row 0 reads 16, 17, 18; row 1 reads 24 to 26 with bit 4 the other way round: 28, 29, 30. */
@@ -367,6 +439,38 @@ static void check_rejections(const tk_tile *tile) {
     CHECK(rejection_at(&bytes, 4095, 2047) == 5 && rejection_at(&bytes, 4095, 2048) == 255);
 }
 
+/* Whether a check of a key with another byte at an address answers a no, that address and what is wrong there. The byte is put back. */
+static int found_at(const tk_tile *tile, uint32_t address, uint8_t byte, uint32_t wrong) {
+    uint8_t right = key[address];
+    key[address] = byte;
+    tk_check_answer answer = tk_check_key_of(bank, tile, 0, key);
+    key[address] = right;
+    return answer.refusal == 0 && answer.yes == 0 && answer.address == address && answer.wrong == wrong;
+}
+
+/* The key keeps 16, 17, 18, 28, 29, 30, each with its own number. A zero is missing where the bank has another byte, and at a kept zero
+ * nothing is; bytes are left over beside and behind. Of two wrong ones the lower is named. The lane is the one that the key was cut by. */
+static void check_checks(const tk_tile *tile) {
+    CHECK(tk_key_of(bank, tile, 0, key).refusal == 0);
+    tk_check_answer right = tk_check_key_of(bank, tile, 0, key);
+    CHECK(right.refusal == 0 && right.yes == 1 && right.address == 0 && right.wrong == TK_KEY_RIGHT);
+    CHECK(found_at(tile, 16, 0, TK_KEY_MISSING) && found_at(tile, 30, 0, TK_KEY_MISSING));
+    CHECK(found_at(tile, 16, 17, TK_KEY_ANOTHER_VALUE) && found_at(tile, 30, 255, TK_KEY_ANOTHER_VALUE));
+    CHECK(found_at(tile, 0, 1, TK_KEY_LEFT_OVER) && found_at(tile, 31, 31, TK_KEY_LEFT_OVER));
+    CHECK(found_at(tile, 4095, 255, TK_KEY_LEFT_OVER));
+    bank[29] = key[29] = 0;
+    CHECK(tk_check_key_of(bank, tile, 0, key).yes == 1 && found_at(tile, 29, 29, TK_KEY_ANOTHER_VALUE));
+    bank[29] = 29;
+    CHECK(found_at(tile, 28, 1, TK_KEY_ANOTHER_VALUE)); /* 29 is missing */
+    tk_tile indexed = with(with(*tile, 3, 2), 1, 0);
+    for (uint32_t lane = 0; lane < 4; lane++) {
+        CHECK(tk_key_of(bank, &indexed, lane, key).refusal == 0);
+        for (uint32_t other = 0; other < 4; other++) {
+            CHECK(tk_check_key_of(bank, &indexed, other, key).yes == (lane == other));
+        }
+    }
+}
+
 /* What each entry but the loads and the replay answers and leaves on success. */
 static void check_answers(void) {
     tk_tile tile = plain_tile();
@@ -401,6 +505,8 @@ static void check_answers(void) {
     CHECK(answer.refusal == 0 && answer.count == 4 && key[17] == 17 && key[29] == 29 && key[18] == 0 && key[30] == 0);
     answer = tk_key_of(bank, &down, 0, key);
     CHECK(answer.refusal == 0 && answer.count == 6 && key[18] == 18 && key[30] == 30 && key[32] == 0);
+
+    check_checks(&tile);
 
     CHECK(tk_palette_nonreplicated_of(bank, lanes) == 0 && lanes[0] == 255 && lanes[31] == 255);
 }
@@ -596,6 +702,9 @@ static void check_null(void) {
     CHECK(tk_sample_tile_observed_of(bank, t, 0, NULL, 0, NULL, 0).refusal == 0);
     CHECK(tk_sampling_lookup_of(bank, t, 0, NULL, 0).refusal == 6);
     CHECK(tk_sampling_lookup_observed_of(bank, t, 0, picture, sizeof picture, NULL, 0).refusal == 7);
+    CHECK(tk_decode_linear_of(t, NULL, 0, 0, NULL, 0).refusal == 0);
+    CHECK(tk_decode_linear(NULL, 0, 4, 1, 0, 1, 1, 0, NULL, 0).refusal == 6);
+    CHECK(tk_decode_linear(NULL, 0, 4, 1, 0, 1, 1, 0, picture, 4).count == 1 && picture[0] == 0 && picture[3] == 0);
     CHECK(tk_write_pam(1, 1, NULL, 0, NULL, 0).refusal == 6);
     CHECK(tk_read_pam(NULL, 0, NULL, 0).refusal == 13);
     tk_split_answer nothing = tk_split(0, NULL, 0, NULL, 0);
@@ -606,6 +715,7 @@ static void check_null(void) {
     CHECK(tk_rejection(TK_TILE_ARGUMENTS(t), NULL, 0).refusal == 1);
     CHECK(tk_palette_nonreplicated(NULL, 0, NULL, 0) == 1);
     CHECK(tk_key(NULL, 0, TK_TILE_ARGUMENTS(t), 0, NULL, 0).refusal == 1);
+    CHECK(tk_check_key(NULL, 0, TK_TILE_ARGUMENTS(t), 0, NULL, 0).refusal == 1);
     static const uint8_t empty_block[TK_RECORD_BYTES];
     CHECK(tk_replay_record_of(bank, written, reasons, empty_block, 0, NULL, 0, 0).refusal == 0);
     CHECK(tk_replay_record(bank, 4096, written, 8192, reasons, 4096, NULL, 0, 0, NULL, 0, 0).refusal == 8);
@@ -616,6 +726,8 @@ int main(void) {
     check_the_twelve();
     check_loads();
     check_lengths();
+    check_linear_limits();
+    check_linear_answers();
     check_sides();
     check_files();
     check_fields();

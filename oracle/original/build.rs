@@ -1,5 +1,6 @@
 //! Names the original's files to the compiler, where they stand: TULONKASA_ORACLE_SOURCE, or shared/docs/src beside the
-//! repository. Of tmem.rs a copy is made in the build's own directory, with src/behind_tmem.rs behind its text.
+//! repository. Copies are made in the build's own directory of tmem.rs, with src/behind_tmem.rs behind its text; of texdec.rs, without the
+//! lines that keep its linear decoders for the original's own tests; and of one function of combiner.rs, on which these decoders call.
 use std::env;
 use std::fs;
 use std::path::{Path, PathBuf};
@@ -19,8 +20,10 @@ fn main() {
         names.iter().map(|name| directory.join(name).with_extension("rs")).collect()
     };
     declare("root.rs", &files(&source, &["diag"]));
-    let mut modules = files(&hle, &["rdp", "texdec", "tile_sampling"]);
+    let mut modules = files(&hle, &["rdp", "tile_sampling"]);
     modules.push(extended(&hle.join("tmem.rs"), Path::new("src/behind_tmem.rs")));
+    modules.push(copied(&hle.join("texdec.rs"), |text| text.replace("#[cfg(test)]\n", "")));
+    modules.push(copied(&hle.join("combiner.rs"), |text| function(&text, "pub fn decode_rgba16(")));
     declare("hle.rs", &modules);
 }
 
@@ -41,12 +44,25 @@ fn declare(name: &str, paths: &[PathBuf]) {
 
 /// Copies a file with another one behind its text, and gives back where the copy is.
 fn extended(file: &Path, more: &Path) -> PathBuf {
-    let texts = [file, more].map(|path| {
-        println!("cargo:rerun-if-changed={}", path.display());
-        fs::read_to_string(path).unwrap_or_else(|error| panic!("{}: {error}", path.display()))
-    });
+    copied(file, |text| text + &read(more))
+}
+
+/// Copies a file with its text changed, and gives back where the copy is.
+fn copied(file: &Path, change: impl Fn(String) -> String) -> PathBuf {
     let name = file.file_name().and_then(|name| name.to_str()).expect("a module's file has a name");
-    write(name, &texts.concat())
+    write(name, &change(read(file)))
+}
+
+/// The text of one function that stands outside of all others, by how it begins.
+fn function(text: &str, beginning: &str) -> String {
+    let start = text.find(beginning).unwrap_or_else(|| panic!("{beginning} is not there"));
+    let end = text[start..].find("\n}\n").expect("a function ends");
+    text[start..start + end + 3].into()
+}
+
+fn read(path: &Path) -> String {
+    println!("cargo:rerun-if-changed={}", path.display());
+    fs::read_to_string(path).unwrap_or_else(|error| panic!("{}: {error}", path.display()))
 }
 
 fn write(name: &str, text: &str) -> PathBuf {

@@ -6,8 +6,9 @@
  * Each buffer lies against a page that cannot be touched, at its end or at its start, so that the archive cannot reach
  * outside it unseen. After each call its refusal, its counts and a load's number are held against what documents 01 and 02 say,
  * worked out here on their own, its other answers against 0 where it refused, and every byte that must not have changed against a
- * copy. Of a file with changed bytes only the numbers that reading can refuse are known. 9 is given by no call; in the end it fails if
- * another refusal never came up. */
+ * copy; so are the texels that a source is decoded to. Of a file with changed bytes only the numbers that reading can refuse are known.
+ * 9 is given by no call; in the end it fails if another refusal never came up, or one of decoding a source, or if an entry never had
+ * the largest picture. */
 
 #include <stdbool.h>
 #include <stdio.h>
@@ -127,10 +128,12 @@ enum {
     REJECTION,
     PALETTE_NONREPLICATED,
     CUT_KEY,
+    CHECK_KEY,
     REPLAY_RECORD,
     WRITE_PAM,
     READ_PAM,
     SPLIT,
+    DECODE_LINEAR,
     ENTRIES
 };
 
@@ -152,10 +155,12 @@ static const char *const entry_names[ENTRIES] = {"tk_load_block",
                                                  "tk_rejection",
                                                  "tk_palette_nonreplicated",
                                                  "tk_key",
+                                                 "tk_check_key",
                                                  "tk_replay_record",
                                                  "tk_write_pam",
                                                  "tk_read_pam",
-                                                 "tk_split"};
+                                                 "tk_split",
+                                                 "tk_decode_linear"};
 
 /* What an entry takes, and so what it can refuse. */
 enum {
@@ -170,7 +175,8 @@ enum {
     TAKES_SIDES = 256,
     TAKES_HEADER = 512,
     TAKES_COUNT = 1024,
-    TAKES_REASON = 2048
+    TAKES_REASON = 2048,
+    TAKES_LINEAR = 4096
 };
 
 /* The buffers that a load writes. */
@@ -200,10 +206,12 @@ static const struct {
     [REJECTION] = {TAKES_TILE, 1 << REASONS, 0},
     [PALETTE_NONREPLICATED] = {0, 1 << BANK, 1 << LANES},
     [CUT_KEY] = {TAKES_TILE | TAKES_LANE | TAKES_PAIR, 1 << BANK, 1 << KEY},
+    [CHECK_KEY] = {TAKES_TILE | TAKES_LANE | TAKES_PAIR, 1 << BANK | 1 << KEY, 0},
     [REPLAY_RECORD] = {TAKES_RECORD, 1 << RECORD | 1 << SOURCE, LOADED},
     [WRITE_PAM] = {TAKES_SIDES, 1 << PICTURE, 1 << PAM},
     [READ_PAM] = {TAKES_HEADER, 1 << PAM, 1 << PICTURE},
     [SPLIT] = {TAKES_COUNT, 1 << TO_SPLIT, 1 << SIDES},
+    [DECODE_LINEAR] = {TAKES_LINEAR | TAKES_PAIR | TAKES_PICTURE, 1 << SOURCE, 1 << PICTURE},
 };
 
 /* What a record asks for, by its kind. Of the two palette loads its numbers pick one in the end. */
@@ -273,7 +281,11 @@ static uint64_t texels(void) {
 /* Reads a texel in modes 0 and 1, by format and size; 0 for a pair that is not accepted. */
 static const uint8_t direct_reads[8][4] = {{0, 0, 2, 4}, {0}, {1, 1, 2, 2}, {1, 1, 2, 0}, {1, 1, 0, 0}, {0}, {0}, {0}};
 
-static uint32_t reads_each(void) { return now.tile.mode >= 2 ? 3 : direct_reads[now.tile.fmt][now.tile.siz]; }
+/* A source is decoded as in mode 0, and without the pair (2,3). */
+static uint32_t reads_each(void) {
+    if (now.entry == DECODE_LINEAR && now.tile.fmt == 2 && now.tile.siz == 3) return 0;
+    return now.entry != DECODE_LINEAR && now.tile.mode >= 2 ? 3 : direct_reads[now.tile.fmt][now.tile.siz];
+}
 
 static bool wrong_length(void) {
     unsigned lent = entries[now.entry].read | entries[now.entry].written;
@@ -296,9 +308,14 @@ static bool tile_outside(void) {
            side_outside();
 }
 
+static bool linear_fields_outside(void) {
+    return now.tile.fmt > 7 || now.tile.siz > 3 || now.tile.palette > 15 || side_outside();
+}
+
 static bool load_outside(void) {
     const uint32_t *n = now.numbers;
     size_t source_length = now.entry == REPLAY_RECORD ? now.length : buffers[SOURCE].length;
+    if (now.does == DECODE_LINEAR) return source_length > 65536 || n[2] > 65535;
     if (now.image_siz > 3 || source_length > 65536) return true;
     if (now.does == LOAD_BLOCK) return n[0] > 4095 || n[1] > 2048;
     if (now.does == LOAD_TILE) return n[0] > 1024 || n[1] > 512 || n[2] > 65535;
@@ -344,9 +361,10 @@ static uint32_t expected_refusal(void) {
     if ((takes & TAKES_LOAD_FIELDS) && load_fields_outside()) return 2;
     if ((takes & TAKES_TILE) && tile_outside()) return 2;
     if ((takes & TAKES_SIDES) && side_outside()) return 2;
+    if ((takes & TAKES_LINEAR) && linear_fields_outside()) return 2;
     if ((takes & TAKES_TILE) && now.tile.mode > 3) return 3;
     if ((takes & TAKES_LANE) && now.lane > 3) return 3;
-    if ((takes & TAKES_LOAD) && load_outside()) return 4;
+    if ((takes & (TAKES_LOAD | TAKES_LINEAR)) && load_outside()) return 4;
     if ((takes & TAKES_RECORD) && (takes & TAKES_LOAD) && source_beyond()) return 11;
     if ((takes & TAKES_PAIR) && reads_each() == 0) return 5;
     if ((takes & TAKES_SIDES) && texels() == 0) return 12;
@@ -367,16 +385,20 @@ static uint32_t expected_number(void) {
 
 /* ---- Making a call -------------------------------------------------------------------------------------------------- */
 
+/* Longer buffers take long to compare, and are rare. */
+enum { SHORT_ROOM = 1 << 22 };
+
 /* A length: mostly the right one, else beside it, that of another buffer that is lent with it, or any up to the room. */
 static size_t some_length(int i, size_t right) {
     static const size_t others[] = {TK_MAP_BYTES, TK_REASON_BYTES, TK_WRITTEN_BYTES};
+    size_t room = buffers[i].room;
     if (!one_in(16)) return right;
     switch (up_to(5)) {
         case 0: return 0;
         case 1: return right == 0 ? 1 : right - 1;
         case 2: return right + 1;
         case 3: return others[up_to(2)];
-        default: return up_to((uint32_t)buffers[i].room);
+        default: return up_to((uint32_t)(room < SHORT_ROOM || one_in(512) ? room : SHORT_ROOM));
     }
 }
 
@@ -384,9 +406,23 @@ static void choose_tile(void) {
     static const uint32_t most[12] = {7, 3, 15, 3, 3, 3, 15, 15, 511, 511, 40, 40};
     uint32_t numbers[12];
     for (int i = 0; i < 12; i++) numbers[i] = one_in(8) ? most[i] : up_to(most[i]);
-    if (one_in(64)) numbers[10] = up_to(TK_SIDE_MOST);
-    if (one_in(64)) numbers[11] = up_to(TK_SIDE_MOST);
+    if (one_in(64)) numbers[10] = up_to(one_in(4) ? TK_SIDE_MOST : 1024);
+    if (one_in(64)) numbers[11] = up_to(one_in(4) ? TK_SIDE_MOST : 1024);
     memcpy(&now.tile, numbers, sizeof numbers);
+}
+
+/* Whether an entry has had the largest picture. */
+static bool had_largest[ENTRIES];
+
+static bool wants_largest(int entry) {
+    return (entries[entry].takes & (TAKES_TILE | TAKES_SIDES | TAKES_HEADER)) != 0 && !had_largest[entry];
+}
+
+/* The largest picture, of texels that read the most. */
+static void choose_largest(void) {
+    now.tile.fmt = now.tile.mode = 0;
+    now.tile.siz = 3;
+    now.tile.width = now.tile.height = TK_SIDE_MOST;
 }
 
 static void choose_load(void) {
@@ -414,6 +450,18 @@ static void choose_load(void) {
     }
 }
 
+/* Mostly a pair that has a linear reading. One that has none comes with a stride out of range as often as not. */
+static void choose_linear(void) {
+    if (one_in(8)) {
+        if (one_in(2)) now.numbers[2] = 65536 + up_to(9);
+        return;
+    }
+    do {
+        now.tile.fmt = up_to(4);
+        now.tile.siz = up_to(3);
+    } while (reads_each() == 0);
+}
+
 /* A reason that is taken, at the limits as often as not. */
 static void choose_reason(void) { now.reason = one_in(2) ? 1 + up_to(TK_REASON_MOST - 1) : one_in(2) ? 1 : TK_REASON_MOST; }
 
@@ -423,11 +471,12 @@ static void choose_last(void) {
     now.last = one_in(2) ? up_to(65534) : limits[up_to(4)] - up_to(1);
 }
 
-/* The most that each load takes of its own numbers. */
+/* The most that each load, and the decoding of a source, take of their own numbers. */
 static const uint32_t own_most[][3] = {[LOAD_BLOCK] = {4095, 2048},
                                        [LOAD_TILE] = {1024, 512, 65535},
                                        [LOAD_TLUT_HARDWARE] = {1024, 1, 65535},
-                                       [LOAD_TLUT_ROWS] = {1024, 1024, 65535}};
+                                       [LOAD_TLUT_ROWS] = {1024, 1024, 65535},
+                                       [DECODE_LINEAR] = {0, 0, 65535}};
 
 /* Puts one number at its limit, outside its range, or anywhere. */
 static void break_one(void) {
@@ -439,7 +488,7 @@ static void break_one(void) {
                              &now.tile.width, &now.tile.height, &now.lane,         &now.image_siz, &now.numbers[0],
                              &now.numbers[1], &now.numbers[2],  &now.reason,       &now.last};
     uint32_t i = one_in(6) ? 17 + up_to(1) : up_to(18);
-    bool is_own = (entries[now.does].takes & TAKES_LOAD) && i >= OWN && i < OWN + 3;
+    bool is_own = (entries[now.does].takes & (TAKES_LOAD | TAKES_LINEAR)) && i >= OWN && i < OWN + 3;
     uint32_t limit = is_own ? own_most[now.does][i - OWN] : most[i];
     switch (up_to(4)) {
         case 0: *numbers[i] = limit; break;
@@ -648,10 +697,22 @@ static void choose_reasons(void) {
     write_front(&buffers[REASONS], reasons, sizeof reasons);
 }
 
+/* A key to be checked: the right one, with up to three bytes changed to zero, to the bank's, or to any; or any bytes. Where the call is
+ * to be refused it stays as it was. */
+static void choose_offer(void) {
+    uint8_t offer[TK_BANK_BYTES];
+    if (one_in(16) || tk_key_of(buffers[BANK].lent, &now.tile, now.lane, offer).refusal != TK_DONE) return;
+    for (uint32_t i = up_to(3); i > 0; i--) {
+        uint32_t a = one_in(4) ? 8 * (now.tile.tmem_addr & 511) + up_to(7) : up_to(TK_BANK_BYTES - 1);
+        offer[a] = one_in(3) ? 0 : one_in(2) ? buffers[BANK].lent[a] : (uint8_t)random64();
+    }
+    write_front(&buffers[KEY], offer, sizeof offer);
+}
+
 /* Lends every buffer that the entry takes. Picture, trail and file get what the tile needs as far as there is room, or more. */
 static void choose_lengths(void) {
     unsigned lent = entries[now.entry].read | entries[now.entry].written;
-    uint64_t count = texels() <= TK_SIDE_MOST * TK_SIDE_MOST ? texels() : 16;
+    uint64_t count = texels() <= SHORT_ROOM / 4 || !side_outside() ? texels() : 16;
     uint32_t each = now.tile.fmt < 8 && now.tile.siz < 4 ? reads_each() : 1;
     size_t header = now.entry == READ_PAM ? now.header.length : (size_t)written_header(NULL, 0);
     for (int i = 0; i < BUFFERS; i++) {
@@ -660,6 +721,7 @@ static void choose_lengths(void) {
         if (i == SOURCE) right = one_in(16) ? right : up_to(600);
         if (i == SOURCE && now.entry == REPLAY_RECORD) right = (size_t)now.length + (one_in(4) ? up_to(100) : 0);
         if (i == PICTURE) right = (size_t)(4 * count + (one_in(4) ? up_to(100) : 0));
+        if (i == PICTURE && now.entry == DECODE_LINEAR && one_in(8)) right = up_to((uint32_t)right);
         if (i == TRAIL) right = (size_t)(2 * each * count + (one_in(4) ? up_to(100) : 0));
         if (i == PAM) right = (size_t)(header + 4 * count + (one_in(4) ? up_to(100) : 0));
         if (i == TO_SPLIT) right = (size_t)(now.count <= TK_ENTRIES_MOST ? now.count : up_to(12)) * TK_ENTRY_BYTES;
@@ -678,10 +740,13 @@ static void choose_call(void) {
     memset(now.numbers, 0, sizeof now.numbers);
     choose_tile();
     choose_load();
+    if (now.entry == DECODE_LINEAR) choose_linear();
     choose_reason();
     choose_last();
     now.lane = up_to(3);
-    if (one_in(4)) {
+    if (wants_largest(now.entry)) {
+        choose_largest();
+    } else if (one_in(4)) {
         break_all();
     } else {
         while (one_in(3)) break_one();
@@ -693,6 +758,7 @@ static void choose_call(void) {
     if (now.entry == REPLAY_RECORD) write_front(&buffers[RECORD], now.record, sizeof now.record);
     if (now.entry == READ_PAM) write_front(&buffers[PAM], now.header.bytes, now.header.length);
     if (now.entry == REJECTION) choose_reasons();
+    if (now.entry == CHECK_KEY && !wrong_length()) choose_offer();
     if (now.entry == SPLIT && expected_of_split() == 0) choose_entries();
 }
 
@@ -712,6 +778,13 @@ static void set_load_answer(tk_load_answer given) {
     answer.numbers[0] = given.count;
     answer.numbers[1] = given.made_up;
     answer.number = given.number;
+}
+
+static void set_check_answer(tk_check_answer given) {
+    answer.refusal = given.refusal;
+    answer.numbers[0] = given.yes;
+    answer.numbers[1] = given.address;
+    answer.numbers[2] = given.wrong;
 }
 
 static void set_replay_answer(tk_replay_answer given) {
@@ -770,6 +843,7 @@ static void make_call(void) {
         }
         case PALETTE_NONREPLICATED: answer.refusal = tk_palette_nonreplicated(LENT(BANK), LENT(LANES)); break;
         case CUT_KEY: set_answer(tk_key(LENT(BANK), TK_TILE_ARGUMENTS(t), now.lane, LENT(KEY))); break;
+        case CHECK_KEY: set_check_answer(tk_check_key(LENT(BANK), TK_TILE_ARGUMENTS(t), now.lane, LENT(KEY))); break;
         case REPLAY_RECORD:
             set_replay_answer(
                 tk_replay_record(LENT(BANK), LENT(WRITTEN), LENT(REASONS), LENT(RECORD), now.end, LENT(SOURCE), now.last));
@@ -782,12 +856,16 @@ static void make_call(void) {
             answer.numbers[1] = given.height;
             break;
         }
-        default: {
+        case SPLIT: {
             tk_split_answer given = tk_split(now.count, LENT(TO_SPLIT), LENT(SIDES));
             answer.refusal = given.refusal;
             answer.numbers[0] = given.tuning;
             answer.numbers[1] = given.held_out;
+            break;
         }
+        default:
+            set_answer(
+                tk_decode_linear(LENT(SOURCE), t->fmt, t->siz, t->palette, t->width, t->height, n[2], LENT(PICTURE)));
     }
 }
 
@@ -882,6 +960,26 @@ static void check_reason(void) {
     if (!stands) fail("a reason that no address has");
 }
 
+/* What a check answered: a yes exactly if the offer is the key; else the lowest address at which it is not, and the kind. What is kept is
+ * what the key of a bank of ones keeps, in modes 0 and 1, where a picture reads the same addresses of every bank. */
+static void check_checked(void) {
+    uint8_t key[TK_BANK_BYTES], ones[TK_BANK_BYTES], kept[TK_BANK_BYTES];
+    const uint8_t *bank = buffers[BANK].lent, *offer = buffers[KEY].lent;
+    memset(ones, 1, sizeof ones);
+    if (tk_key_of(bank, &now.tile, now.lane, key).refusal != TK_DONE) fail("a key beside a check");
+    if (tk_key_of(ones, &now.tile, now.lane, kept).refusal != TK_DONE) fail("a key beside a check");
+    uint32_t a = 0;
+    while (a < TK_BANK_BYTES && offer[a] == key[a]) a++;
+    bool yes = a == TK_BANK_BYTES;
+    if (answer.numbers[0] != yes || answer.numbers[1] != (yes ? 0 : a)) fail("the lowest wrong address");
+    if (yes && answer.numbers[2] != TK_KEY_RIGHT) fail("something wrong with a right key");
+    if (yes || now.tile.mode >= 2) return;
+    uint32_t wrong = kept[a] && bank[a] != 0 && offer[a] == 0 ? TK_KEY_MISSING
+                     : !kept[a] && offer[a] != 0              ? TK_KEY_LEFT_OVER
+                                                              : TK_KEY_ANOTHER_VALUE;
+    if (answer.numbers[2] != wrong) fail("what is wrong");
+}
+
 /* What a writing answered and left. */
 static void check_written(void) {
     char text[TK_PAM_HEADER_MOST + 1];
@@ -919,11 +1017,47 @@ static void check_split(void) {
     if (answer.numbers[0] != now.count - held_out || answer.numbers[1] != held_out) fail("the totals");
 }
 
+/* A byte of the source; past its end 0. */
+static uint8_t source_byte(uint64_t place) { return place < buffers[SOURCE].length ? buffers[SOURCE].lent[place] : 0; }
+
+/* A number of so few bits, repeated to eight. */
+static uint8_t widened(uint32_t number, uint32_t bits) {
+    uint32_t wide = 0, have = 0;
+    for (; have < 8; have += bits) wide = wide << bits | number;
+    return (uint8_t)(wide >> (have - 8));
+}
+
+/* What a decoding left, texel by texel, as the header says. Of its numbers it takes the stride, as a tile load does. */
+static void check_linear(void) {
+    uint32_t fmt = now.tile.fmt, siz = now.tile.siz;
+    for (uint64_t i = 0; i < texels(); i++) {
+        uint64_t x = i % now.tile.width, row = i / now.tile.width * now.numbers[2];
+        uint64_t place = row + (siz == 0 ? x / 2 : siz == 1 ? x : siz == 2 ? 2 * x : 4 * x);
+        uint8_t b[4], due[4];
+        for (uint64_t k = 0; k < 4; k++) b[k] = source_byte(place + k);
+        uint32_t half = x % 2 == 0 ? b[0] >> 4 : b[0] & 15, pair = (uint32_t)b[0] << 8 | b[1], v = b[0];
+        if (siz == 0) v = fmt == 2 ? 16 * now.tile.palette + half : widened(half, 4);
+        for (uint64_t k = 0; k < 4; k++) due[k] = (uint8_t)v;
+        if (fmt == 0 && siz == 2) {
+            for (uint32_t k = 0; k < 3; k++) due[k] = widened(pair >> (11 - 5 * k) & 31, 5);
+            due[3] = pair % 2 == 0 ? 0 : 255;
+        }
+        if (fmt == 0 && siz == 3) memcpy(due, b, 4);
+        if (fmt == 2 && siz == 2) due[1] = due[3] = b[1];
+        if (fmt == 3 && siz == 0) memset(due, widened(half >> 1, 3), 3), due[3] = half % 2 == 0 ? 0 : 255;
+        if (fmt == 3 && siz == 1) memset(due, widened(v >> 4, 4), 3), due[3] = widened(v & 15, 4);
+        if (fmt == 3 && siz == 2) due[3] = b[1];
+        if (memcmp(buffers[PICTURE].lent + 4 * i, due, 4) != 0) fail("a texel of the source");
+    }
+}
+
 static void check_counts(void) {
     if (now.entry == SPLIT) check_split();
     if (now.entry == WRITE_PAM) check_written();
     if (now.entry == READ_PAM) check_read();
     if (now.entry == REJECTION) check_reason();
+    if (now.entry == DECODE_LINEAR) check_linear();
+    if (now.entry == CHECK_KEY) check_checked();
     if (entries[now.does].takes & TAKES_LOAD) {
         check_load_counts();
         check_numbers();
@@ -1007,6 +1141,7 @@ int main(int argc, char **argv) {
         make_call();
         check_call(done % 65536 == 0);
         answered[now.entry][answer.refusal]++;
+        had_largest[now.entry] |= answer.refusal == 0 && now.tile.width == TK_SIDE_MOST && now.tile.height == TK_SIDE_MOST;
         done++;
     }
     printf("rough handling: %llu calls, seed %s, refused by number:", (unsigned long long)done, argv[2]);
@@ -1018,6 +1153,17 @@ int main(int argc, char **argv) {
     for (int number = 0; done >= MANY_CALLS && number < NUMBERS; number++) {
         if (number == NOT_GIVEN || times_answered(number, 0, ENTRIES) > 0) continue;
         fprintf(stderr, "rough: %d never came up\n", number);
+        return 1;
+    }
+    static const int of_decoding[] = {0, 2, 4, 5, 6};
+    for (size_t i = 0; done >= MANY_CALLS && i < sizeof of_decoding / sizeof *of_decoding; i++) {
+        if (answered[DECODE_LINEAR][of_decoding[i]] > 0) continue;
+        fprintf(stderr, "rough: %d never came up of %s\n", of_decoding[i], entry_names[DECODE_LINEAR]);
+        return 1;
+    }
+    for (int entry = 0; done >= MANY_CALLS && entry < ENTRIES; entry++) {
+        if (!wants_largest(entry)) continue;
+        fprintf(stderr, "rough: %s never had the largest picture\n", entry_names[entry]);
         return 1;
     }
     return 0;

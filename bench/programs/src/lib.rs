@@ -15,6 +15,9 @@ pub mod refusal {
     pub const NUMBER: u32 = 18;
 }
 
+/// The largest width and height.
+const SIDE_MOST: u16 = 4096;
+
 /// The numbers of a record's line after its refusal, or the refusal.
 pub type Answer<const NUMBERS: usize> = Result<[u32; NUMBERS], u32>;
 
@@ -96,10 +99,11 @@ impl Head {
         fmt <= 7 && siz <= 3 && line <= 511 && tmem_addr <= 511
     }
 
+    /// Whether all are.
     fn is_inside(&self) -> bool {
         let TileDescriptor { palette, cms, cmt, masks, maskt, width, height, .. } = self.tile;
         let others = palette <= 15 && cms <= 3 && cmt <= 3 && masks <= 15 && maskt <= 15;
-        self.is_load_inside() && others && width <= 1024 && height <= 1024
+        self.is_load_inside() && others && width <= SIDE_MOST && height <= SIDE_MOST
     }
 
     /// The count of bytes that the picture's key keeps, or the refusal.

@@ -1,16 +1,16 @@
 -- The rule's list of formats, by place, and by the reads of its formats.
-use mathlib.Core.Path.{_≡_, refl}
-use mathlib.Core.Bool.{Bool, true, false, not, cond, _||_}
+use mathlib.Core.Path.{_≡_, refl, ap, sym, _∙_}
+use mathlib.Core.Bool.{Bool, true, false, not, cond, _||_, true≢false}
 use mathlib.Core.List.{List, [], _∷_}
-use Prim.Native.Nat.{ℕ, _+_, _*_, _<_, _≤_}
+use Prim.Native.Nat.{ℕ, _+_, _*_, _%_, _<_, _≤_}
 use native.Mathlib.Omega.{arith}
 use native.Mathlib.Decide.{decLt, ℕ-discrete}
-use lib.Dec.{T, eqb, eqb→eq}
+use lib.Dec.{T, eqb, ltb, eqb→eq}
 use lib.ListN.{List·getD-eq-default}
-use borrow.Author.Tests.{le-leb, lt-leb, ne-eqb, eq-eqb}
+use borrow.Author.Tests.{le-leb, lt-leb, le-ltb, ne-eqb, eq-eqb}
 use Rattle.rules.specs.Base.{mem}
 use Rattle.rules.specs.Tile.{Tile, InRange}
-use Rattle.rules.specs.Texdec.{Format, rgba16, rgba32, ci4, ci8, ci16, ia4, ia8, ia16, i4, i8, unknown, formats, formatOf}
+use Rattle.rules.specs.Texdec.{Format, rgba16, rgba32, ci4, ci8, ci16, ia4, ia8, ia16, i4, i8, unknown, formats, formatOf, known}
 use Rattle.rules.specs.Picture.{direct, formatReads}
 use Rattle.rules.proofs.Computed.{all, computed}
 use Rattle.decoder.specs.Steps.{formatAt, kindOf}
@@ -72,19 +72,25 @@ two-else n e a b = go (ℕ-discrete n 10) (ℕ-discrete n 11)
         absurd
         (elsewhere 2 (2 ∷ 10 ∷ 11 ∷ 14 ∷ []) tt tt n e (simp (ne-eqb n 2 a, ne-eqb n 10 c, ne-eqb n 11 d, ne-eqb n 14 b)))
 
--- of one read are those of four bits, IA8, and the two that give the byte itself, which are one rule
-pub one-else : (base palette : ℕ) (odd : Bool) (rel x n : ℕ) → formatReads (formatAt n) ≡ 1
-    → Not n 8 → Not n 12 → Not n 13 → Not n 16 → direct (formatAt n) base palette odd rel x ≡ direct i8 base palette odd rel x
-unfolding mem direct
-one-else base palette odd rel x n e a b c d = go (ℕ-discrete n 9) (ℕ-discrete n 17)
+-- of one read are those of four bits, IA8, and two more
+pub one-rest : (P : ℕ → Type 0) → P 9 → P 17 → (n : ℕ) → formatReads (formatAt n) ≡ 1 → Not n 8 → Not n 12 → Not n 13 → Not n 16 → P n
+unfolding mem
+one-rest P u v n e a b c d = go (ℕ-discrete n 9) (ℕ-discrete n 17)
   where
-    go : Dec (n ≡ 9) → Dec (n ≡ 17) → direct (formatAt n) base palette odd rel x ≡ direct i8 base palette odd rel x
-    go (yes p) q = rw p
-    go (no p) (yes q) = rw q
+    go : Dec (n ≡ 9) → Dec (n ≡ 17) → P n
+    go (yes p) q = rw p u
+    go (no p) (yes q) = rw q v
     go (no p) (no q) =
         absurd
         (elsewhere 1 (8 ∷ 9 ∷ 12 ∷ 13 ∷ 16 ∷ 17 ∷ []) tt tt n e
         (simp (ne-eqb n 8 a, ne-eqb n 9 p, ne-eqb n 12 b, ne-eqb n 13 c, ne-eqb n 16 d, ne-eqb n 17 q)))
+
+-- those give the byte itself, which is one rule
+pub one-else : (base palette : ℕ) (odd : Bool) (rel x n : ℕ) → formatReads (formatAt n) ≡ 1
+    → Not n 8 → Not n 12 → Not n 13 → Not n 16 → direct (formatAt n) base palette odd rel x ≡ direct i8 base palette odd rel x
+unfolding direct
+one-else base palette odd rel x n e a b c d =
+    one-rest (λ n. direct (formatAt n) base palette odd rel x ≡ direct i8 base palette odd rel x) refl refl n e a b c d
 
 -- RGBA32 alone has four
 pub four-reads : (f : Format) → formatReads f ≡ 4 → f ≡ rgba32
@@ -113,6 +119,32 @@ no-reads ia16 a b c = absurd (b refl)
 no-reads i4 a b c = absurd (a refl)
 no-reads i8 a b c = absurd (a refl)
 no-reads unknown a b c = refl
+
+-- a known format that has neither one nor two reads has four
+pub four-left : (f : Format) → known f ≡ true → Not (formatReads f) 1 → Not (formatReads f) 2 → formatReads f ≡ 4
+four-left f k a b = go (ℕ-discrete (formatReads f) 4)
+  where
+    go : Dec (formatReads f ≡ 4) → formatReads f ≡ 4
+    go (yes p) = p
+    go (no p) = absurd (true≢false (sym k ∙ ap known (no-reads f a b p)))
+
+-- one of size 0 has no more than one
+pub wide-place : (n : ℕ) → 2 ≤ formatReads (formatAt n) → eqb (n % 4) 0 ≡ false
+wide-place n h = go (decLt n 18)
+  where
+    either : (b c : Bool) → T (not b || c) → c ≡ false → b ≡ false
+    either false c t e = refl
+    either true c t e = absurd (rw e at t)
+
+    go : Dec (n < 18) → eqb (n % 4) 0 ≡ false
+    go (yes q) =
+        either (eqb (n % 4) 0) (ltb (formatReads (formatAt n)) 2)
+        (computed 18 (λ k. not (eqb (k % 4) 0) || ltb (formatReads (formatAt k)) 2) tt n q)
+        (le-ltb (formatReads (formatAt n)) 2 h)
+    go (no q) =
+        let past : 18 ≤ n = omega arith in
+        let few : 2 ≤ 0 = rw (List·getD-eq-default formats unknown past) at h in
+        absurd (omega arith)
 
 -- no format has more than four
 pub format-few : (f : Format) → formatReads f ≤ 4

@@ -8,7 +8,7 @@ use native.Mathlib.Omega.{arith}
 use lib.ListN.{length}
 use borrow.Author.Tests.{ltb-false, eqb-true, not-false}
 use Rattle.rules.specs.Reading.{trail}
-use Rattle.rules.specs.Tile.{Tile, InRange, bankSize, tileOutside, laneOutside}
+use Rattle.rules.specs.Tile.{Tile, InRange, bankSize, sideLimit, tileOutside, laneOutside}
 use Rattle.rules.specs.Texdec.{stepKnows}
 use Rattle.rules.specs.Picture.{readsEach}
 use Rattle.rules.specs.Refusal.{first}
@@ -51,7 +51,7 @@ narrow : (looked : Bool) (t : Tile) → InRange t → widthBy looked t ≤ 4096
 narrow true t i = omega arith
 narrow false t i = omega arith
 
-short : (looked : Bool) (t : Tile) → InRange t → rowsBy looked t ≤ 1024
+short : (looked : Bool) (t : Tile) → InRange t → rowsBy looked t ≤ sideLimit
 short true t i = omega arith
 short false t i = i .height
 

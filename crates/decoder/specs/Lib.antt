@@ -3,3 +3,4 @@ pub mod Steps
 pub mod Tables
 pub mod Rows
 pub mod Asked
+pub mod Linear

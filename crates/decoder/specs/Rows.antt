@@ -7,7 +7,7 @@ use lib.Dec.{eqb, ltb}
 use lib.ListN.{length, getD}
 use Rattle.rules.specs.Base.{odd}
 use Rattle.rules.specs.Reading.{Reading, upTo, encoded}
-use Rattle.rules.specs.Tile.{Tile, InRange}
+use Rattle.rules.specs.Tile.{Tile, InRange, sideLimit}
 use Rattle.rules.specs.Texdec.{tlut, stepKnows}
 use Rattle.rules.specs.Picture.{texel, rowStart, readsEach}
 use Rattle.rdp.specs.View.{tileOf}
@@ -71,7 +71,7 @@ pub record Ready (bank texels : List ℕ) (p : Plan) (k : ℕ) : Type 0 where
   pub knows : stepKnows (p .«tlut_fmt») (p .tile .fmt) (p .tile .siz) ≡ true
   pub slot : p .lane ≤ 3
   pub narrow : p .width ≤ 4096
-  pub short : p .rows ≤ 1024
+  pub short : p .rows ≤ sideLimit
   pub step : p .step ≡ trailStep (p .observe) (tileOf (p .tile)) (p .«tlut_fmt»)
 
 -- texel i of a row, a row, and all rows of a plan

@@ -105,7 +105,7 @@ fn one_byte_texel(
 }
 
 // The index that a nibble stands for, in all channels.
-fn ci4_texel(palette: u32, x: usize, byte: u8) -> [u8; 4]
+pub(crate) fn ci4_texel(palette: u32, x: usize, byte: u8) -> [u8; 4]
     requires { ⌜ palette ≤ 15 ⌝ }
     ensures { λ r. ⌜ r ≡ same4 (palette * 16 + nibble x byte) ⌝ }
 {

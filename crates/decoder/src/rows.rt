@@ -28,7 +28,7 @@ use texdec::palette::WHOLE_BYTE;
 use tmem::bank::Bank;
 
 // Four channels go to the front of the picture.
-fn put_channels(channels: [u8; 4], out: &mut [u8])
+pub(crate) fn put_channels(channels: [u8; 4], out: &mut [u8])
     requires { ⌜ 4 ≤ length (now out) ⌝ }
     ensures { λ _. ⌜ now (out .exit) ≡ over (four channels) (now (out .entry)) ⌝ }
 {

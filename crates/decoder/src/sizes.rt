@@ -2,7 +2,7 @@
 ghost use mathlib.Core.Path.{_≡_};
 ghost use mathlib.Core.Bool.{cond};
 ghost use Prim.Native.Nat.{_*_, _≤_};
-ghost use Rattle.rules.specs.Tile.{InRange};
+ghost use Rattle.rules.specs.Tile.{InRange, sideLimit};
 ghost use Rattle.rdp.specs.View.{tileOf};
 ghost use Rattle.decoder.specs.Asked.{texelsBy, widthBy, rowsBy};
 use rdp::tile::TileDescriptor;
@@ -39,7 +39,7 @@ pub(crate) fn row_count(tile: TileDescriptor, lookup: bool) -> usize
 pub(crate) fn texel_count(tile: TileDescriptor, lookup: bool) -> usize
     requires { ⌜ InRange (tileOf tile) ⌝ }
     ensures { λ r. ⌜ r ≡ texelsBy lookup (tileOf tile) ⌝ }
-    ensures { λ r. ⌜ r ≤ 1048576 ⌝ }
+    ensures { λ r. ⌜ r ≤ sideLimit * sideLimit ⌝ }
 {
     if lookup {
         LOOKUP_TEXELS

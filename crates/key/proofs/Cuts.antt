@@ -16,7 +16,7 @@ use Rattle.rules.proofs.Tables.{tab-more}
 abbrev pub keptByte : List ℕ → List ℕ → ℕ → ℕ
 keptByte l bank a = cond (mem a l) (getD bank a 0) 0
 
-times-one : (v : ℕ) (t : Bool) → v * one t ≡ cond t v 0
+pub times-one : (v : ℕ) (t : Bool) → v * one t ≡ cond t v 0
 times-one v true = omega arith
 times-one v false = omega arith
 

@@ -18,7 +18,8 @@ use Rattle.rules.specs.Key.{key, keptCount, flipped, texelAt, Bytes}
 use Rattle.rules.proofs.Keys.{length-key, key-byte, key-given, key-trail, key-key, agree→key, key→agree}
 use Rattle.rules.proofs.Maps.{Below}
 use Rattle.rules.proofs.Formats.{accepted-direct, accepted-known, direct-known, texel-direct, texel-four}
-use Rattle.key.proofs.Lift.{found, texel-of}
+use Rattle.rules.proofs.Texels.{texel-of}
+use Rattle.key.proofs.Lift.{found}
 use Rattle.key.proofs.Flips.{texel-flips}
 use Rattle.key.proofs.Inside.{picture-below}
 

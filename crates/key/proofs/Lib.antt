@@ -7,6 +7,8 @@ pub mod Inside
 pub mod Period
 pub mod Called
 pub mod Cuts
+pub mod Offers
 pub mod Within
 pub mod Demand3
 pub mod Shown
+pub mod Left

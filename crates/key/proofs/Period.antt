@@ -23,7 +23,7 @@ unfolding upTo
 mem-more f b n a = ap (mem a) (trail-then (upTo n f) (f n) b) ∙ mem-append a (trail (upTo n f) b) (trail (f n) b)
 
 -- what one reading reads, the row of them reads
-covered : (f : ℕ → Reading) (b : List ℕ) (n k a : ℕ) → k < n → mem a (trail (f k) b) ≡ true → mem a (trail (upTo n f) b) ≡ true
+pub covered : (f : ℕ → Reading) (b : List ℕ) (n k a : ℕ) → k < n → mem a (trail (f k) b) ≡ true → mem a (trail (upTo n f) b) ≡ true
 covered f b zero k a h m = absurd (omega arith)
 covered f b (suc n) k a h m = mem-more f b n a ∙ go (ℕ-discrete k n) (covered f b n k a)
   where

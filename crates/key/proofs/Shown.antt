@@ -15,7 +15,7 @@ use Rattle.rules.specs.Picture.{column, rowStart, texel, paletted, plainRow, pl
 use Rattle.rules.specs.Key.{texelAt, keyOf, key}
 use Rattle.rules.proofs.Formats.{accepted-known, texel-four}
 use Rattle.rules.proofs.Visible.{side-le, uncut, uncut-whole, lookup-whole}
-use Rattle.key.proofs.Lift.{texel-of}
+use Rattle.rules.proofs.Texels.{texel-of}
 
 module _ (t : Tile) (mode lane : ℕ) (bank : List ℕ) where
   -- texel (x, y) of what is visible is texel (x, y) of the plain picture

@@ -22,8 +22,14 @@ use tile_sampling::sampling::TileSampling;
 use tile_sampling::visible::visible;
 use tmem::bank::Bank;
 
-// The first refusal of the call's inputs.
-fn key_refusal(bank: &[u8], tile: TileDescriptor, tlut: u32, lane: u32, out: &[u8]) -> u32
+// The first refusal of the call's inputs: a bank, and a key that is written or offered.
+pub(crate) fn key_refusal(
+    bank: &[u8],
+    tile: TileDescriptor,
+    tlut: u32,
+    lane: u32,
+    out: &[u8],
+) -> u32
     ensures { λ r. ⌜ r ≡ first (keyTests (now (bank .entry)) (tileOf tile) tlut lane (now (out .entry))) ⌝ }
 {
     if bank.len() != Bank::SIZE {
@@ -36,7 +42,13 @@ fn key_refusal(bank: &[u8], tile: TileDescriptor, tlut: u32, lane: u32, out: &[u
 }
 
 // Notes what the visible picture reads: the lookup, or what a renderer shows of the plain one. The flag is the whole tile's.
-fn note_picture(bank: &[u8], notes: &mut [u8], tile: TileDescriptor, tlut: u32, lane: u32)
+pub(crate) fn note_picture(
+    bank: &[u8],
+    notes: &mut [u8],
+    tile: TileDescriptor,
+    tlut: u32,
+    lane: u32,
+)
     requires { ⌜ length (now bank) ≡ bankSize ⌝ }
     requires { ⌜ now notes ≡ noNotes ⌝ }
     requires { ⌜ first (pairTests (tileOf tile) tlut lane) ≡ 0 ⌝ }

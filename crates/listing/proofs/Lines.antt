@@ -10,7 +10,7 @@ use Rattle.rules.specs.Refusal.{first}
 use Rattle.rules.specs.Sampling.{flag, lookupTexels, texels}
 use Rattle.rules.specs.Calls.{pairTests, keyCall}
 use Rattle.rules.specs.Key.{keptCount}
-use Rattle.rules.specs.Lister.{lineOf}
+use Rattle.rules.specs.Lister.{lineTo, lineOf}
 use Rattle.rules.proofs.Refused.{refused-is, done-is, one-byte}
 use Rattle.rules.proofs.Allowed.{Allowed, allowed}
 use Rattle.key.proofs.Called.{called-refusal, called-count}
@@ -29,10 +29,10 @@ module _ (bank : List ℕ) (t : Tile) (mode : ℕ) (out : List ℕ) (whole : len
     line-allowed z = allowed t mode 0 (sym is-first ∙ z)
 
     pub line-refused : (refusal ≡ 0 → ⊥) → record { refusal = refusal; numbers = 0 ∷ 0 ∷ 0 ∷ []; buffers = [] } ≡ lineOf t mode bank
-    unfolding lineOf
+    unfolding lineTo
     line-refused h = refused-is _ _ _ _ refusal is-first h
 
     pub line-done : (b : Bool) (n : ℕ) → refusal ≡ 0 → b ≡ flag t mode → n ≡ cond b lookupTexels (t .width * t .height)
         → record { refusal = 0; numbers = boolByte b ∷ count ∷ n ∷ []; buffers = [] } ≡ lineOf t mode bank
-    unfolding lineOf texels
+    unfolding lineTo texels
     line-done b n z f e = rw (e, one-byte, f, is-count z) (done-is _ _ _ _ (sym is-first ∙ z))

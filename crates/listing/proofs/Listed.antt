@@ -8,7 +8,7 @@ use native.Mathlib.Omega.{arith}
 use lib.Dec.{eqb}
 use lib.ListN.{length, take, length-take, length-drop}
 use Rattle.rules.specs.Base.{over}
-use Rattle.rules.specs.Lister.{recordSize, lineRoom, tornLine, lineText, listing, listCall}
+use Rattle.rules.specs.Lister.{recordSize, lineRoom, tornLine, lineText, listingTo, listing, listCall}
 use Rattle.rdp.specs.View.{textAnswered}
 use Rattle.rdp.specs.declared.answer.TextAnswer.{TextAnswer}
 use Rattle.listing.specs.View.{recordTexts}
@@ -17,12 +17,12 @@ use Rattle.decimal.proofs.Writes.{Wrote, wrote-more, lent, back, over-lent, ove
 
 module _ (input out : List ℕ) (at : ℕ) (xs : List ℕ) (records : Wrote (recordTexts input (length input / recordSize)) out at xs) where
   pub whole-text : eqb (length input % recordSize) 0 ≡ true → Wrote (listing input) out at xs
-  unfolding listing
+  unfolding listingTo
   whole-text e = rw (e, append-nil) records
 
   pub torn-text : (ys : List ℕ) (end : ℕ) → eqb (length input % recordSize) 0 ≡ false → end ≡ at + length (lineText tornLine)
       → ys ≡ over (take at xs ++ lineText tornLine) xs → Wrote (listing input) out end ys
-  unfolding listing
+  unfolding listingTo
   torn-text ys end e n h = rw e (wrote-more _ out at xs (lineText tornLine) ys end records n h)
 
 -- The part of a buffer from `at` on was lent and is back as ys: an input's text stands there and ends at `end`, in the buffer.

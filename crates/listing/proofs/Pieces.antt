@@ -6,7 +6,7 @@ use native.Mathlib.Omega.{arith}
 use native.Mathlib.Numerals.{add-one}
 use lib.ListN.{length, length-append}
 use Rattle.rules.specs.Base.{tab, concat}
-use Rattle.rules.specs.Lister.{recordSize, recordAt, recordLine, lineText, listing}
+use Rattle.rules.specs.Lister.{recordSize, recordAt, recordLine, lineText, listingTo, listing}
 use Rattle.rules.proofs.Records.{records-append}
 use Rattle.rules.proofs.Tables.{tab-none, tab-more, concat-append}
 use Rattle.listing.specs.View.{recordText, recordTexts}
@@ -31,7 +31,7 @@ module _ (a b : List ℕ) (whole : length a % recordSize ≡ 0) where
 
   -- the text of a piece of whole records and of what follows it
   listing-cut : listing (a ++ b) ≡ listing a ++ listing b
-  unfolding listing
+  unfolding listingTo
   listing-cut =
       let all : length (a ++ b) / recordSize ≡ count + length b / recordSize = rw length-append (omega arith) in
       let rest : length (a ++ b) % recordSize ≡ length b % recordSize = rw length-append (omega arith) in

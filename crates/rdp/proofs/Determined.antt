@@ -16,11 +16,12 @@ use Rattle.rdp.specs.declared.answer.SizeAnswer.{SizeAnswer}
 use Rattle.rdp.specs.declared.answer.SplitAnswer.{SplitAnswer}
 use Rattle.rdp.specs.declared.answer.YesAnswer.{YesAnswer}
 use Rattle.rdp.specs.declared.answer.ReasonAnswer.{ReasonAnswer}
+use Rattle.rdp.specs.declared.answer.CheckAnswer.{CheckAnswer}
 use Rattle.rdp.specs.declared.answer.SamplingAnswer.{SamplingAnswer}
 use Rattle.rdp.specs.declared.answer.TextAnswer.{TextAnswer}
 use Rattle.rdp.specs.declared.answer.RunAnswer.{RunAnswer}
 use Rattle.rdp.specs.View.{answered, loadAnswered, replayAnswered, sizeAnswered, splitAnswered, yesAnswered}
-use Rattle.rdp.specs.View.{reasonAnswered, samplingAnswered, textAnswered, runAnswered, refusalAnswered, tileOf}
+use Rattle.rdp.specs.View.{reasonAnswered, checkAnswered, samplingAnswered, textAnswered, runAnswered, refusalAnswered, tileOf}
 
 -- number k of an outcome
 number : ℕ → Outcome → ℕ
@@ -74,6 +75,12 @@ unfolding number
 reason-determined o r s p q =
     let e : reasonAnswered r ≡ reasonAnswered s = determined p q in
     λ i. record { refusal = e i .refusal; reason = number 0 (e i) }
+
+pub check-determined : (o : Outcome) (r s : CheckAnswer) → checkAnswered r ≡ o → checkAnswered s ≡ o → r ≡ s
+unfolding number
+check-determined o r s p q =
+    let e : checkAnswered r ≡ checkAnswered s = determined p q in
+    λ i. record { refusal = e i .refusal; yes = number 0 (e i); address = number 1 (e i); wrong = number 2 (e i) }
 
 pub sampling-determined : (o : Outcome) (r s : SamplingAnswer) → samplingAnswered r ≡ o → samplingAnswered s ≡ o → r ≡ s
 unfolding number

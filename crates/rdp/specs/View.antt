@@ -11,6 +11,7 @@ use Rattle.rdp.specs.declared.answer.SizeAnswer.{SizeAnswer}
 use Rattle.rdp.specs.declared.answer.SplitAnswer.{SplitAnswer}
 use Rattle.rdp.specs.declared.answer.YesAnswer.{YesAnswer}
 use Rattle.rdp.specs.declared.answer.ReasonAnswer.{ReasonAnswer}
+use Rattle.rdp.specs.declared.answer.CheckAnswer.{CheckAnswer}
 use Rattle.rdp.specs.declared.answer.SamplingAnswer.{SamplingAnswer}
 use Rattle.rdp.specs.declared.answer.TextAnswer.{TextAnswer}
 use Rattle.rdp.specs.declared.answer.RunAnswer.{RunAnswer}
@@ -53,6 +54,9 @@ yesAnswered r = record { refusal = r .refusal; numbers = r .yes ∷ []; buffers 
 
 abbrev pub reasonAnswered : ReasonAnswer → Outcome
 reasonAnswered r = record { refusal = r .refusal; numbers = r .reason ∷ []; buffers = [] }
+
+abbrev pub checkAnswered : CheckAnswer → Outcome
+checkAnswered r = record { refusal = r .refusal; numbers = r .yes ∷ r .address ∷ r .wrong ∷ []; buffers = [] }
 
 abbrev pub samplingAnswered : SamplingAnswer → Outcome
 samplingAnswered r = record { refusal = r .refusal; numbers = r .flag ∷ r .width ∷ r .height ∷ []; buffers = [] }

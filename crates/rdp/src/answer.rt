@@ -55,6 +55,16 @@ pub struct ReasonAnswer {
     pub reason: u32,
 }
 
+// Whether an offered key is right (1) or not (0); where it is not, the lowest wrong address and what is wrong there: 1 missing, 2 left
+// over, 3 another value.
+#[repr(C)]
+pub struct CheckAnswer {
+    pub refusal: u32,
+    pub yes: u32,
+    pub address: u32,
+    pub wrong: u32,
+}
+
 // The sampling flag, and the allocation extent.
 #[repr(C)]
 pub struct SamplingAnswer {

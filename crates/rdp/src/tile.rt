@@ -11,7 +11,7 @@ use crate::units::LineWords;
 use crate::units::WordAddr;
 
 // The largest width and height.
-const SIDE_MOST: u32 = 1024;
+const SIDE_MOST: u32 = 4096;
 
 pub struct TileDescriptor {
     pub fmt: u32,

@@ -5,6 +5,7 @@ pub mod Readings
 pub mod Keys
 pub mod Over
 pub mod Parts
+pub mod Texels
 pub mod Bits
 pub mod Maps
 pub mod Numbers
@@ -20,6 +21,7 @@ pub mod Ranges
 pub mod Pick
 pub mod Allowed
 pub mod Visible
+pub mod Check
 pub mod Records
 pub mod ReplayTests
 pub mod Replay
@@ -31,3 +33,4 @@ pub mod PamWorked
 pub mod Splits
 pub mod SplitWorked
 pub mod Nine
+pub mod Sides

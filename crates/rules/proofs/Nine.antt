@@ -10,8 +10,9 @@ use Rattle.rules.specs.Load.{Reason}
 use Rattle.rules.specs.Refusal.{Test, Outcome, call, callOr}
 use Rattle.rules.specs.Calls.{blockCall, tileCall, tlutHardwareCall, tlutRowsCall, samplingCall, reachCall, hasLoadCall}
 use Rattle.rules.specs.Calls.{rejectionCall, laneCall, pictureCall, observedCall, sampleTileCall, sampleTileObservedCall}
-use Rattle.rules.specs.Calls.{samplingLookupCall, samplingLookupObservedCall, keyCall}
-use Rattle.rules.specs.Lister.{lineOf, numberCall, listCall}
+use Rattle.rules.specs.Calls.{samplingLookupCall, samplingLookupObservedCall, linearCall, keyCall, checkCall}
+use Rattle.rules.specs.Check.{checked}
+use Rattle.rules.specs.Lister.{lineTo, lineOf, numberCall, listCall}
 use Rattle.rules.specs.Replay.{asksKey, recordTests, Carried, Piece, tested, outcome, replayCall, runCall}
 use Rattle.rules.specs.Pam.{pamWriteCall, pamReadCall}
 use Rattle.rules.specs.Split.{splitCall}
@@ -36,8 +37,9 @@ record-lacks end r l h = go (asksKey r)
     go true = h
     go false = h
 
--- Every call, on every input: the loads, ordinary and rejected; what is asked of a tile or a bank; the pictures and the key; a line of the
--- lister, a number and the listing; a record in a run of a replay and alone, and the run; picture files; the split.
+-- Every call, on every input: the loads, ordinary and rejected; what is asked of a tile or a bank; the pictures, the linear decoding, the
+-- key and the check of one; a line of the lister, a number and the listing; a record in a run of a replay and alone, and the run; picture
+-- files; the split.
 module _ (bank map reasons src : List ℕ) (t : Tile) (image dxt words rows stride count : ℕ) (why : Reason) (last mode lane : ℕ)
     (out seen picture file entries input r part : List ℕ) (n after at w h end : ℕ) (m : Carried) (p : Piece) where
   pub no-nine : Nineless (blockCall bank map reasons src t image dxt words why last)
@@ -53,7 +55,9 @@ module _ (bank map reasons src : List ℕ) (t : Tile) (image dxt words rows stri
       × Nineless (sampleTileObservedCall bank t mode lane out seen)
       × Nineless (samplingLookupCall bank t mode lane out)
       × Nineless (samplingLookupObservedCall bank t mode lane out seen)
+      × Nineless (linearCall src t stride out)
       × Nineless (keyCall bank t mode lane out)
+      × Nineless (checkCall bank t mode lane out)
       × Nineless (lineOf t mode bank)
       × Nineless (numberCall n after out at)
       × Nineless (listCall input out)
@@ -64,8 +68,11 @@ module _ (bank map reasons src : List ℕ) (t : Tile) (image dxt words rows stri
       × Nineless (pamReadCall file picture)
       × Nineless (splitCall count entries out)
   unfolding call callOr blockCall tileCall tlutHardwareCall tlutRowsCall samplingCall reachCall hasLoadCall rejectionCall laneCall
-      pictureCall observedCall keyCall lineOf numberCall listCall tested outcome replayCall runCall pamWriteCall pamReadCall splitCall
+      pictureCall observedCall linearCall keyCall checkCall checked lineTo numberCall listCall tested outcome replayCall runCall
+      pamWriteCall pamReadCall splitCall
   no-nine = (
+    nineless _ _ _ _ _ refl,
+    nineless _ _ _ _ _ refl,
     nineless _ _ _ _ _ refl,
     nineless _ _ _ _ _ refl,
     nineless _ _ _ _ _ refl,

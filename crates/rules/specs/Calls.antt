@@ -8,15 +8,17 @@ use lib.ListN.{length}
 use Rattle.rules.specs.Base.{one, over}
 use Rattle.rules.specs.Refusal.{Test, _if_, Outcome, call, callOr}
 use Rattle.rules.specs.Tile.{Tile, bankSize, mapSize, writtenSize, reasonsSize, laneMapSize}
-use Rattle.rules.specs.Tile.{loadFieldsOutside, tileOutside, modeOutside, laneOutside}
+use Rattle.rules.specs.Tile.{sideLimit, loadFieldsOutside, linearFieldsOutside, tileOutsideTo, modeOutside, laneOutside}
 use Rattle.rules.specs.Texdec.{accepted}
 use Rattle.rules.specs.Sampling.{flag, extentWidth, extentHeight, lookupTexels}
 use Rattle.rules.specs.Load.{Store, loadTile, blockStores, tileStores, hardwareStores, rowStores, stored, written, following, madeUp}
 use Rattle.rules.specs.Load.{Reason, reasonOutside, reasonLeft, reasoned}
 use Rattle.rules.specs.Reading.{Reading, given, trail, encoded}
 use Rattle.rules.specs.Picture.{plain, lookup}
+use Rattle.rules.specs.Linear.{linearPair, linear}
 use Rattle.rules.specs.Reach.{reachMap, hasLoad, rejection, laneMap}
 use Rattle.rules.specs.Key.{key, keptCount}
+use Rattle.rules.specs.Check.{checked}
 
 -- The tests, by their numbers. "Number 9 is not given out again."
 
@@ -25,9 +27,12 @@ use Rattle.rules.specs.Key.{key, keptCount}
 abbrev pub notBytes : ℕ → List ℕ → Bool
 notBytes n lent = not (eqb (length lent) n)
 
--- "a tile field is outside its range"
+-- "a tile field is outside its range", where the sides go up to a limit, and to this one
+abbrev pub badTileTo : ℕ → Tile → Test
+badTileTo limit t = 2 if tileOutsideTo limit t
+
 abbrev pub badTile : Tile → Test
-badTile t = 2 if tileOutside t
+badTile t = badTileTo sideLimit t
 
 -- "mode or lane is above 3"
 abbrev pub badMode : ℕ → Test
@@ -152,8 +157,11 @@ unfoldable pub laneCall : List ℕ → List ℕ → Outcome
 laneCall bank map = call (laneTests bank map) [] (laneMap bank ∷ []) (map ∷ [])
 
 -- Pictures. The tests before the buffers', and then the buffers' own.
+abbrev pub pairTestsTo : ℕ → Tile → ℕ → ℕ → List Test
+pairTestsTo limit t mode lane = badTileTo limit t ∷ badMode mode ∷ badLane lane ∷ badPair t mode ∷ []
+
 abbrev pub pairTests : Tile → ℕ → ℕ → List Test
-pairTests t mode lane = badTile t ∷ badMode mode ∷ badLane lane ∷ badPair t mode ∷ []
+pairTests t mode lane = pairTestsTo sideLimit t mode lane
 
 -- "the picture buffer is shorter than 4 bytes a texel"
 abbrev pub shortPicture : ℕ → List ℕ → Test
@@ -199,6 +207,26 @@ samplingLookupCall bank t mode lane out = pictureCall (lookup t mode lane) looku
 abbrev pub samplingLookupObservedCall : List ℕ → Tile → ℕ → ℕ → List ℕ → List ℕ → Outcome
 samplingLookupObservedCall bank t mode lane out seen = observedCall (lookup t mode lane) lookupTexels bank t mode lane out seen
 
+-- Document 02's item 11: the linear decoding of a source, without a bank; the count of reads is answered. Its source and stride have the
+-- ranges of a load's, and a pair that is not accepted in mode 0, or is (2,3), has no linear decoding.
+abbrev pub linearOutside : ℕ → ℕ → Bool
+linearOutside size stride = ltb 65536 size || ltb 65535 stride
+
+abbrev pub linearTests : List ℕ → Tile → ℕ → List ℕ → List Test
+linearTests src t stride out =
+    (2 if linearFieldsOutside t)
+    ∷ (4 if linearOutside (length src) stride)
+    ∷ (5 if not (linearPair (t .fmt) (t .siz)))
+    ∷ shortPicture (plainTexels t) out
+    ∷ []
+
+unfoldable pub linearCall : List ℕ → Tile → ℕ → List ℕ → Outcome
+linearCall src t stride out =
+    call (linearTests src t stride out)
+    (length (trail (linear t stride) src) ∷ [])
+    (over (given (linear t stride) src) out ∷ [])
+    (out ∷ [])
+
 -- The key: bank and key are lent, and the kept count is answered.
 abbrev pub keyTests : List ℕ → Tile → ℕ → ℕ → List ℕ → List Test
 keyTests bank t mode lane out =
@@ -207,3 +235,7 @@ keyTests bank t mode lane out =
 unfoldable pub keyCall : List ℕ → Tile → ℕ → ℕ → List ℕ → Outcome
 keyCall bank t mode lane out =
     call (keyTests bank t mode lane out) (keptCount t mode lane bank ∷ []) (key t mode lane bank ∷ []) (out ∷ [])
+
+-- The check of an offered key: bank and offer are lent to be read. "Refusals: 1, 2, 3 and 5 as for the key itself, in that order."
+unfoldable pub checkCall : List ℕ → Tile → ℕ → ℕ → List ℕ → Outcome
+checkCall bank t mode lane offer = call (keyTests bank t mode lane offer) (checked t mode lane bank offer) [] []

@@ -6,8 +6,10 @@ pub mod Sampling
 pub mod Load
 pub mod Reading
 pub mod Picture
+pub mod Linear
 pub mod Reach
 pub mod Key
+pub mod Check
 pub mod Refusal
 pub mod Calls
 pub mod Lister

@@ -5,10 +5,10 @@ use Prim.Native.Nat.{ℕ, zero, suc, _+_, _*_, _/_, _%_}
 use lib.Dec.{eqb, ltb}
 use lib.ListN.{length, getD, take, drop}
 use Rattle.rules.specs.Base.{one, tab, concat, recordOf, over}
-use Rattle.rules.specs.Tile.{Tile, bankSize}
+use Rattle.rules.specs.Tile.{Tile, bankSize, sideLimit}
 use Rattle.rules.specs.Sampling.{flag, texels}
 use Rattle.rules.specs.Refusal.{_if_, Outcome, call}
-use Rattle.rules.specs.Calls.{pairTests}
+use Rattle.rules.specs.Calls.{pairTestsTo}
 use Rattle.rules.specs.Key.{keptCount}
 
 -- "records of 4,112 bytes, no header"
@@ -45,17 +45,24 @@ recordMode r = byte r 3
 abbrev pub recordBank : List ℕ → List ℕ
 recordBank r = take bankSize (drop 16 r)
 
--- "refusal, flag, distinct kept bytes, texels; on refusal the rest are 0"; "Lane is 0."
-unfoldable pub lineOf : Tile → ℕ → List ℕ → Outcome
-lineOf t mode bank =
-    call (pairTests t mode 0)
+-- "refusal, flag, distinct kept bytes, texels; on refusal the rest are 0"; "Lane is 0." Document 02's item 12 speaks of "a lister from
+-- before this change": a lister has a limit of the sides, and is else the same. The one without `To` in its name is today's.
+unfoldable pub lineTo : ℕ → Tile → ℕ → List ℕ → Outcome
+lineTo limit t mode bank =
+    call (pairTestsTo limit t mode 0)
     (one (flag t mode) ∷ keptCount t mode 0 bank ∷ texels t mode ∷ [])
     [] []
 
-unfoldable pub recordLine : List ℕ → List ℕ
-recordLine r =
-    let o : Outcome = lineOf (recordTile r) (recordMode r) (recordBank r) in
+abbrev pub lineOf : Tile → ℕ → List ℕ → Outcome
+lineOf t mode bank = lineTo sideLimit t mode bank
+
+unfoldable pub recordLineTo : ℕ → List ℕ → List ℕ
+recordLineTo limit r =
+    let o : Outcome = lineTo limit (recordTile r) (recordMode r) (recordBank r) in
     o .refusal ∷ o .numbers
+
+abbrev pub recordLine : List ℕ → List ℕ
+recordLine r = recordLineTo sideLimit r
 
 -- a number's decimal digits, least first, with fuel for as many
 unfoldable pub lowDigits : ℕ → ℕ → List ℕ
@@ -86,8 +93,12 @@ tornLine = 8 ∷ 0 ∷ 0 ∷ 0 ∷ []
 abbrev pub tail : List ℕ → List ℕ
 tail input = cond (eqb (length input % recordSize) 0) [] (lineText tornLine)
 
-unfoldable pub listing : List ℕ → List ℕ
-listing input = concat (tab (length input / recordSize) (λ i. lineText (recordLine (recordAt input i)))) ++ tail input
+unfoldable pub listingTo : ℕ → List ℕ → List ℕ
+listingTo limit input =
+    concat (tab (length input / recordSize) (λ i. lineText (recordLineTo limit (recordAt input i)))) ++ tail input
+
+abbrev pub listing : List ℕ → List ℕ
+listing input = listingTo sideLimit input
 
 -- The calls that write text into a lent buffer. One with less room than the longest text of its kind needs is refused with 6, as a
 -- picture's buffer is.

@@ -92,30 +92,44 @@ sized t width height =
 abbrev pub loadTileFrom : ℕ → ℕ → ℕ → ℕ → Tile
 loadTileFrom fmt siz line tmem-addr = tileFrom fmt siz 0 0 0 0 0 line tmem-addr 0 0
 
--- width and height go up to this
-abbrev pub sideLimit : ℕ
-sideLimit = 1024
+-- a tile of the five numbers that a linear decoding takes; the others are 0
+abbrev pub linearTileFrom : ℕ → ℕ → ℕ → ℕ → ℕ → Tile
+linearTileFrom fmt siz palette width height = tileFrom fmt siz palette 0 0 0 0 0 0 width height
 
--- a side of a picture is above it
+-- document 02's item 12: "Raise width and height to 4,096." Bounds of sides are written from this; the code has its constant in `rdp`.
+abbrev pub sideLimit : ℕ
+sideLimit = 4096
+
+-- a side of a picture is above a limit, and above this one
+abbrev pub sidesAbove : ℕ → ℕ → ℕ → Bool
+sidesAbove limit width height = ltb limit width || ltb limit height
+
 abbrev pub sidesOutside : ℕ → ℕ → Bool
-sidesOutside width height = ltb sideLimit width || ltb sideLimit height
+sidesOutside width height = sidesAbove sideLimit width height
 
 -- "Of the tile a load takes fmt, siz, line and tmem_addr alone": one of them is outside its range
 abbrev pub loadFieldsOutside : Tile → Bool
 loadFieldsOutside t = ltb 7 (t .fmt) || ltb 3 (t .siz) || ltb 511 (t .line) || ltb 511 (t .tmem-addr)
 
+-- of the tile a linear decoding takes fmt, siz, palette, width and height alone: one of them is outside its range
+abbrev pub linearFieldsOutside : Tile → Bool
+linearFieldsOutside t = ltb 7 (t .fmt) || ltb 3 (t .siz) || ltb 15 (t .palette) || sidesOutside (t .width) (t .height)
+
 -- "Tile: fmt 0..7, siz 0..3, palette 0..15, cms and cmt 0..3, masks and maskt 0..15, line and tmem_addr 0..511, width
--- and height 0..1,024": a field is outside its range
-abbrev pub tileOutside : Tile → Bool
-tileOutside t =
+-- and height 0..": a field is outside its range, where the sides go up to a limit
+abbrev pub tileOutsideTo : ℕ → Tile → Bool
+tileOutsideTo limit t =
     loadFieldsOutside t
     || ltb 15 (t .palette)
     || ltb 3 (t .cms)
     || ltb 3 (t .cmt)
     || ltb 15 (t .masks)
     || ltb 15 (t .maskt)
-    || ltb sideLimit (t .width)
-    || ltb sideLimit (t .height)
+    || ltb limit (t .width)
+    || ltb limit (t .height)
+
+abbrev pub tileOutside : Tile → Bool
+tileOutside t = tileOutsideTo sideLimit t
 
 -- every field is inside its range
 pub record InRange (t : Tile) : Type 0 where

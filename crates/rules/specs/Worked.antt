@@ -7,16 +7,16 @@ use Prim.Native.Nat.{ℕ, _+_, _-_}
 use lib.ListN.{length, getD, set, replicate, take, drop}
 use Rattle.rules.specs.Base.{one, tab, concat, all, same, numberAt}
 use Rattle.rules.specs.Reading.{trail}
-use Rattle.rules.specs.Tile.{Tile, tileFrom, bankSize, reasonsSize, freshWritten, freshReasons}
+use Rattle.rules.specs.Tile.{Tile, tileFrom, linearTileFrom, bankSize, reasonsSize, freshWritten, freshReasons}
 use Rattle.rules.specs.Refusal.{Outcome}
 use Rattle.rules.specs.Texdec.{rgba16Texel, ia4Texel, ia8Texel}
 use Rattle.rules.specs.Sampling.{flag}
 use Rattle.rules.specs.Load.{Store, loadTile, stored, blockStores, tlutStores, Reason, ordinary, rejected, madeUp}
 use Rattle.rules.specs.Reach.{hasLoad, paletteOrder, rejection}
-use Rattle.rules.specs.Calls.{blockCall, tlutHardwareCall, tlutRowsCall}
-use Rattle.rules.specs.Picture.{picture, texel}
-use Rattle.rules.specs.Key.{key, keptCount}
-use Rattle.rules.specs.Lister.{listing}
+use Rattle.rules.specs.Calls.{blockCall, tileCall, tlutHardwareCall, tlutRowsCall, linearCall, samplingCall, checkCall}
+use Rattle.rules.specs.Picture.{picture, texel, rowStart}
+use Rattle.rules.specs.Key.{key, keyOf, keptCount}
+use Rattle.rules.specs.Lister.{lineTo, listing}
 use Rattle.rules.specs.Replay.{fresh as start, carried, inFile, replayed, lines, recordsIn, replayText}
 
 -- two lists of numbers that have to be the same
@@ -208,6 +208,29 @@ abbrev byRowsCall : ℕ → ℕ → Outcome
 byRowsCall image rows =
     tlutRowsCall fresh freshWritten freshReasons (counting 4) (tile 0 0 0 256 0 0) image 2 rows 0 ordinary 0
 
+-- Document 02's item 11. A linear decoding of a pair, palette, sides and stride, from a source into a picture of 9s: what it answers and
+-- leaves.
+abbrev linearly : ℕ → ℕ → ℕ → ℕ → ℕ → ℕ → List ℕ → ℕ → List ℕ
+linearly fmt siz palette width height stride src room =
+    answer (linearCall src (linearTileFrom fmt siz palette width height) stride (replicate room 9))
+
+-- its refusal, of a source and a picture of so many bytes
+abbrev linearRefusal : ℕ → ℕ → ℕ → ℕ → ℕ → ℕ → ℕ → ℕ → ℕ
+linearRefusal fmt siz palette width height stride size room =
+    linearCall (replicate size 0) (linearTileFrom fmt siz palette width height) stride (replicate room 9) .refusal
+
+-- a tile load of so many rows of no words
+abbrev noWords : ℕ → Outcome
+noWords rows = tileCall fresh freshWritten freshReasons [] (tile 0 2 0 0 0 0) 2 rows 0 0 ordinary 0
+
+-- Document 02's item 13. I8, one texel: address 0 is kept and no other.
+abbrev i8One : Tile
+i8One = tile 4 1 0 0 1 1
+
+-- what the check says of an offer that has one byte and else zeros, for a bank that has one byte at address 0 and else zeros
+abbrev offered : ℕ → ℕ → ℕ → List ℕ
+offered inBank at byte = answers (checkCall (set fresh 0 inBank) i8One 0 0 (set fresh at byte))
+
 -- a list's length, its first and its last number
 abbrev endsOf : List ℕ → List ℕ
 endsOf l = length l ∷ getD l 0 0 ∷ getD l (length l - 1) 0 ∷ []
@@ -318,6 +341,60 @@ table =
     ∷ (map (λ image. byHardwareCall image 1 .refusal) (0 ∷ 1 ∷ 3 ∷ 4 ∷ []) gives 4 ∷ 0 ∷ 0 ∷ 4 ∷ [])
     ∷ (map (λ rows. byRowsCall 2 rows .refusal) (0 ∷ 1 ∷ 2 ∷ 1025 ∷ []) gives 4 ∷ 0 ∷ 0 ∷ 4 ∷ [])
     ∷ (map (λ image. byRowsCall image 1 .refusal) (0 ∷ 3 ∷ 4 ∷ []) gives 0 ∷ 0 ∷ 4 ∷ [])
+    -- the linear decoding: RGBA16 and IA16, the high byte first, and P1's red
+    ∷ (linearly 0 2 0 2 1 0 (0xf8 ∷ 0x01 ∷ 0x84 ∷ 0x20 ∷ []) 8 gives 0 ∷ 4 ∷ 255 ∷ 0 ∷ 0 ∷ 255 ∷ 132 ∷ 132 ∷ 132 ∷ 0 ∷ [])
+    ∷ (linearly 3 2 0 2 1 0 (1 ∷ 2 ∷ 3 ∷ 4 ∷ []) 8 gives 0 ∷ 4 ∷ 1 ∷ 1 ∷ 1 ∷ 2 ∷ 3 ∷ 3 ∷ 3 ∷ 4 ∷ [])
+    -- RGBA32, four bytes a texel; a picture that is longer keeps its further bytes
+    ∷ (linearly 0 3 0 2 1 0 (counting 8) 9 gives 0 ∷ 8 ∷ 0 ∷ 1 ∷ 2 ∷ 3 ∷ 4 ∷ 5 ∷ 6 ∷ 7 ∷ 9 ∷ [])
+    -- IA8, with rows that overlap
+    ∷ (linearly 3 1 0 2 2 1 (0x5a ∷ 0xff ∷ 0x0f ∷ []) 16
+    gives 0 ∷ 4 ∷ 85 ∷ 85 ∷ 85 ∷ 170 ∷ 255 ∷ 255 ∷ 255 ∷ 255 ∷ 255 ∷ 255 ∷ 255 ∷ 255 ∷ 0 ∷ 0 ∷ 0 ∷ 255 ∷ [])
+    -- I4 of an odd width: each row starts at its own byte; IA4 nibbles of P3
+    ∷ (linearly 4 0 0 1 2 1 (0x12 ∷ 0x34 ∷ []) 8 gives 0 ∷ 2 ∷ 17 ∷ 17 ∷ 17 ∷ 17 ∷ 51 ∷ 51 ∷ 51 ∷ 51 ∷ [])
+    ∷ (linearly 4 0 0 3 1 0 (0x12 ∷ 0x34 ∷ []) 12 gives 0 ∷ 3 ∷ 17 ∷ 17 ∷ 17 ∷ 17 ∷ 34 ∷ 34 ∷ 34 ∷ 34 ∷ 51 ∷ 51 ∷ 51 ∷ 51 ∷ [])
+    ∷ (linearly 3 0 0 2 1 0 (0x29 ∷ []) 8 gives 0 ∷ 2 ∷ 36 ∷ 36 ∷ 36 ∷ 0 ∷ 146 ∷ 146 ∷ 146 ∷ 255 ∷ [])
+    -- I8, rows 3 apart, the second cut short by the source's end: its bytes are zero, and are counted as reads
+    ∷ (linearly 4 1 0 2 2 3 (1 ∷ 2 ∷ 3 ∷ 4 ∷ []) 16
+    gives 0 ∷ 4 ∷ 1 ∷ 1 ∷ 1 ∷ 1 ∷ 2 ∷ 2 ∷ 2 ∷ 2 ∷ 4 ∷ 4 ∷ 4 ∷ 4 ∷ 0 ∷ 0 ∷ 0 ∷ 0 ∷ [])
+    -- an index is itself: (2,0) with its palette, (2,1), and (2,2) twice
+    ∷ (linearly 2 0 3 2 1 0 (0x5c ∷ []) 8 gives 0 ∷ 2 ∷ 53 ∷ 53 ∷ 53 ∷ 53 ∷ 60 ∷ 60 ∷ 60 ∷ 60 ∷ [])
+    ∷ (linearly 2 1 3 1 1 0 (0x5c ∷ []) 4 gives 0 ∷ 1 ∷ 92 ∷ 92 ∷ 92 ∷ 92 ∷ [])
+    ∷ (linearly 2 2 3 1 1 0 (7 ∷ []) 4 gives 0 ∷ 2 ∷ 7 ∷ 0 ∷ 7 ∷ 0 ∷ [])
+    -- a picture of no texels reads nothing
+    ∷ (linearly 4 1 0 0 5 1 (1 ∷ []) 1 gives 0 ∷ 0 ∷ 9 ∷ [])
+    -- refused: 2, 4, 5, 6 in this order, with a count of 0 and the picture as it was; (2,3) and an unknown pair are 5
+    ∷ (linearly 2 3 0 1 1 0 (1 ∷ 2 ∷ []) 4 gives 5 ∷ 0 ∷ 9 ∷ 9 ∷ 9 ∷ 9 ∷ [])
+    ∷ (linearRefusal 1 4 16 4097 4097 65536 65537 0 ∷ linearRefusal 1 3 15 4096 4096 65536 65537 0 ∷ [] gives 2 ∷ 4 ∷ [])
+    ∷ (linearRefusal 2 3 0 1 1 65535 65536 3 ∷ linearRefusal 0 3 0 1 1 65535 65536 3 ∷ [] gives 5 ∷ 6 ∷ [])
+    ∷ (map (λ palette. linearRefusal 4 1 palette 0 0 0 0 0) (15 ∷ 16 ∷ []) gives 0 ∷ 2 ∷ [])
+    ∷ (map (λ side. linearRefusal 4 1 0 side 0 0 0 0) (4096 ∷ 4097 ∷ []) gives 0 ∷ 2 ∷ [])
+    ∷ (map (λ side. linearRefusal 4 1 0 0 side 0 0 0) (4096 ∷ 4097 ∷ []) gives 0 ∷ 2 ∷ [])
+    ∷ (map (λ stride. linearRefusal 4 1 0 0 0 stride 0 0) (65535 ∷ 65536 ∷ []) gives 0 ∷ 4 ∷ [])
+    ∷ (map (λ size. linearRefusal 4 1 0 0 0 0 size 0) (65536 ∷ 65537 ∷ []) gives 0 ∷ 4 ∷ [])
+    -- "Raise width and height to 4,096": each is taken to there, and refused past it
+    ∷ (map (λ side. samplingCall (tile 4 1 2 0 side 1) 0 .refusal) (1024 ∷ 1025 ∷ 4096 ∷ 4097 ∷ []) gives 0 ∷ 0 ∷ 0 ∷ 2 ∷ [])
+    ∷ (map (λ side. samplingCall (tile 4 1 2 0 1 side) 0 .refusal) (1024 ∷ 1025 ∷ 4096 ∷ 4097 ∷ []) gives 0 ∷ 0 ∷ 0 ∷ 2 ∷ [])
+    -- "A lister from before this change refuses the new ones with 2"
+    ∷ (map (λ side. lineTo 1024 (tile 4 1 2 0 side 0) 0 fresh .refusal) (1024 ∷ 1025 ∷ 4096 ∷ []) gives 0 ∷ 2 ∷ 2 ∷ [])
+    ∷ (map (λ side. lineTo 1024 (tile 4 1 2 0 0 side) 0 fresh .refusal) (1024 ∷ 1025 ∷ 4096 ∷ []) gives 0 ∷ 2 ∷ 2 ∷ [])
+    -- a tall picture's flag goes by 256, and its rows repeat every 256, as before; a tile load takes 1,024 rows, as before
+    ∷ (flags (flag (tile 4 1 1 0 0 4096) 0) (flag (tile 4 1 2 0 0 4096) 0) (flag (tile 4 1 1 0 0 4096) 2) gives 1 ∷ 0 ∷ 0 ∷ [])
+    ∷ (map (rowStart (tile 4 1 2 0 1 4096)) (1 ∷ 257 ∷ 4095 ∷ []) gives 16 ∷ 16 ∷ 4080 ∷ [])
+    ∷ (map (λ rows. noWords rows .refusal) (1024 ∷ 1025 ∷ []) gives 0 ∷ 4 ∷ [])
+    -- a zero bank: the key is zeros; 5 at the kept address is another value, and at any other it is left over, the last one too
+    ∷ (offered 0 0 0 gives 0 ∷ 1 ∷ 0 ∷ 0 ∷ [])
+    ∷ (offered 0 0 5 gives 0 ∷ 0 ∷ 0 ∷ 3 ∷ [])
+    ∷ (offered 0 1 5 gives 0 ∷ 0 ∷ 1 ∷ 2 ∷ [])
+    ∷ (offered 0 4095 5 gives 0 ∷ 0 ∷ 4095 ∷ 2 ∷ [])
+    -- a bank that has 7 there: 7 is right, 5 is another value and 0 is missing; the lowest wrong address is named
+    ∷ (offered 7 0 7 gives 0 ∷ 1 ∷ 0 ∷ 0 ∷ [])
+    ∷ (offered 7 0 5 gives 0 ∷ 0 ∷ 0 ∷ 3 ∷ [])
+    ∷ (offered 7 9 5 gives 0 ∷ 0 ∷ 0 ∷ 1 ∷ [])
+    -- a wall's key from before item 4 is left over where the wall repeats
+    ∷ (answers (checkCall nines (wall 0) 0 0 (keyOf (picture (wall 0) 0 0) nines)) gives 0 ∷ 0 ∷ 2 ∷ 2 ∷ [])
+    -- as for the key, 1 tests the offer's length too
+    ∷ (answers (checkCall fresh i8One 4 0 (0 ∷ fresh)) gives 1 ∷ 0 ∷ 0 ∷ 0 ∷ [])
+    ∷ (answers (checkCall fresh i8One 4 0 fresh) gives 3 ∷ 0 ∷ 0 ∷ 0 ∷ [])
     ∷ []
 
 -- the two lists of every case are the same

@@ -3,10 +3,11 @@ use mathlib.Core.Path.{_≡_}
 use mathlib.Core.List.{[], _∷_}
 use denote.Ref.{now}
 use Rattle.rdp.proofs.Determined.{answered-determined, load-determined, size-determined, refusal-determined, sampling-determined}
-use Rattle.rdp.proofs.Determined.{reason-determined, replay-determined, split-determined, yes-determined}
+use Rattle.rdp.proofs.Determined.{check-determined, reason-determined, replay-determined, split-determined, yes-determined}
 use Rattle.tulonkasa.proofs.files.tk_write_pam.Reads as tk-write-pam
 use Rattle.tulonkasa.proofs.files.tk_read_pam.Reads as tk-read-pam
 use Rattle.tulonkasa.proofs.keys.tk_key.Reads as tk-key
+use Rattle.tulonkasa.proofs.keys.tk_check_key.Reads as tk-check-key
 use Rattle.tulonkasa.proofs.loads.tk_load_block.Reads as tk-load-block
 use Rattle.tulonkasa.proofs.loads.tk_load_tile.Reads as tk-load-tile
 use Rattle.tulonkasa.proofs.loads.tk_load_tlut_hardware.Reads as tk-load-tlut-hardware
@@ -15,6 +16,7 @@ use Rattle.tulonkasa.proofs.maps.tk_reach.Reads as tk-reach
 use Rattle.tulonkasa.proofs.maps.tk_tile_has_load.Reads as tk-tile-has-load
 use Rattle.tulonkasa.proofs.maps.tk_rejection.Reads as tk-rejection
 use Rattle.tulonkasa.proofs.maps.tk_palette_nonreplicated.Reads as tk-palette-nonreplicated
+use Rattle.tulonkasa.proofs.pictures.tk_decode_linear.Reads as tk-decode-linear
 use Rattle.tulonkasa.proofs.pictures.tk_sample_tile.Reads as tk-sample-tile
 use Rattle.tulonkasa.proofs.pictures.tk_sample_tile_observed.Reads as tk-sample-tile-observed
 use Rattle.tulonkasa.proofs.pictures.tk_sampling_lookup.Reads as tk-sampling-lookup
@@ -38,6 +40,9 @@ tk-read-pam-one w a r s e f p q = size-determined _ r s _ _ p q
 pub tk-key-one : (w : _) (a : _) (r s : _) (e f : _) → tk-key.Post w a r e → tk-key.Post w a s f
     → (r ≡ s) × (now (e .1 .1 .1 .1 .1 .1 .1 .1 .1 .1 .1 .1 .1 .1 .0) ∷ [] ≡ now (f .1 .1 .1 .1 .1 .1 .1 .1 .1 .1 .1 .1 .1 .1 .0) ∷ [])
 tk-key-one w a r s e f p q = answered-determined _ r s _ _ p q
+
+pub tk-check-key-one : (w : _) (a : _) (r s : _) (e f : _) → tk-check-key.Post w a r e → tk-check-key.Post w a s f → r ≡ s
+tk-check-key-one w a r s e f p q = check-determined _ r s p q
 
 pub tk-load-block-one : (w : _) (a : _) (r s : _) (e f : _) → tk-load-block.Post w a r e → tk-load-block.Post w a s f
     → (r ≡ s) × (now (e .0) ∷ now (e .1 .0) ∷ now (e .1 .1 .0) ∷ [] ≡ now (f .0) ∷ now (f .1 .0) ∷ now (f .1 .1 .0) ∷ [])
@@ -70,6 +75,10 @@ pub tk-palette-nonreplicated-one : (w : _) (a : _) (r s : _) (e f : _) → tk-pa
     → tk-palette-nonreplicated.Post w a s f
     → (r ≡ s) × (now (e .1 .0) ∷ [] ≡ now (f .1 .0) ∷ [])
 tk-palette-nonreplicated-one w a r s e f p q = refusal-determined _ r s _ _ p q
+
+pub tk-decode-linear-one : (w : _) (a : _) (r s : _) (e f : _) → tk-decode-linear.Post w a r e → tk-decode-linear.Post w a s f
+    → (r ≡ s) × (now (e .1 .1 .1 .1 .1 .1 .1 .0) ∷ [] ≡ now (f .1 .1 .1 .1 .1 .1 .1 .0) ∷ [])
+tk-decode-linear-one w a r s e f p q = answered-determined _ r s _ _ p q
 
 pub tk-sample-tile-one : (w : _) (a : _) (r s : _) (e f : _) → tk-sample-tile.Post w a r e → tk-sample-tile.Post w a s f
     → (r ≡ s) × (now (e .1 .1 .1 .1 .1 .1 .1 .1 .1 .1 .1 .1 .1 .1 .0) ∷ [] ≡ now (f .1 .1 .1 .1 .1 .1 .1 .1 .1 .1 .1 .1 .1 .1 .0) ∷ [])

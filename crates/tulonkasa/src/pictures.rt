@@ -1,9 +1,11 @@
-// The pictures: the plain one and the lookup, each alone or with the trail of its reads.
+// The pictures: the plain one and the lookup, each alone or with the trail of its reads; and the linear decoding of a source.
 ghost use mathlib.Core.Path.{_≡_};
 ghost use mathlib.Core.List.{[], _∷_};
 ghost use Rattle.rules.specs.Calls.{sampleTileCall, sampleTileObservedCall, samplingLookupCall, samplingLookupObservedCall};
+ghost use Rattle.rules.specs.Calls.{linearCall};
 ghost use Rattle.rdp.specs.View.{answered};
-ghost use Rattle.rules.specs.Tile.{tileFrom};
+ghost use Rattle.rules.specs.Tile.{tileFrom, linearTileFrom};
+use crate::tile::linear_tile_from;
 use crate::tile::tile_from;
 use rdp::answer::Answer;
 
@@ -163,4 +165,23 @@ pub extern "C" fn tk_sampling_lookup_observed(
         height,
     );
     decoder::picture::sampling_lookup_lane_observed(bank, tile, mode, lane, picture, trail)
+}
+
+// The linear decoding of a source, without a bank; the count of reads is answered.
+#[no_mangle]
+pub extern "C" fn tk_decode_linear(
+    source: &[u8],
+    fmt: u32,
+    siz: u32,
+    palette: u32,
+    width: u32,
+    height: u32,
+    stride: u32,
+    picture: &mut [u8],
+) -> Answer
+    ensures { λ r. ⌜ answered r (now (picture .exit) ∷ [])
+        ≡ linearCall (now (source .entry)) (linearTileFrom fmt siz palette width height) stride (now (picture .entry)) ⌝ }
+{
+    let tile = linear_tile_from(fmt, siz, palette, width, height);
+    decoder::linear::decode_linear(source, tile, stride, picture)
 }

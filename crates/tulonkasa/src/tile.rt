@@ -1,7 +1,7 @@
 // A tile of its numbers.
 ghost use mathlib.Core.Path.{_≡_};
 ghost use Rattle.rdp.specs.View.{tileOf};
-ghost use Rattle.rules.specs.Tile.{tileFrom, loadTileFrom};
+ghost use Rattle.rules.specs.Tile.{tileFrom, loadTileFrom, linearTileFrom};
 use rdp::tile::TileDescriptor;
 use rdp::units::LineWords;
 use rdp::units::WordAddr;
@@ -42,4 +42,17 @@ pub(crate) fn load_tile_from(fmt: u32, siz: u32, line: u32, tmem_addr: u32) -> T
     ensures { λ r. ⌜ tileOf r ≡ loadTileFrom fmt siz line «tmem_addr» ⌝ }
 {
     tile_from(fmt, siz, 0, 0, 0, 0, 0, line, tmem_addr, 0, 0)
+}
+
+// The tile of the five numbers that a linear decoding takes.
+pub(crate) fn linear_tile_from(
+    fmt: u32,
+    siz: u32,
+    palette: u32,
+    width: u32,
+    height: u32,
+) -> TileDescriptor
+    ensures { λ r. ⌜ tileOf r ≡ linearTileFrom fmt siz palette width height ⌝ }
+{
+    tile_from(fmt, siz, palette, 0, 0, 0, 0, 0, 0, width, height)
 }

@@ -1,7 +1,9 @@
 //! Turns a record of a capture into a PAM file, and a PAM file into its texels.
+mod captures;
 mod files;
 
-use files::{is_standard, next_record, open, said, write, Failure, RECORD_BYTES, STANDARD};
+use captures::{next_record, RECORD_BYTES};
+use files::{is_standard, open, said, write, Failure, STANDARD};
 use std::ffi::OsStr;
 use std::io::{self, Read};
 use std::path::Path;

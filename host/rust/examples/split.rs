@@ -1,7 +1,9 @@
 //! Splits the records of a capture into tuning and held-out ones by their keys.
+mod captures;
 mod files;
 
-use files::{next_record, open, said, write, Failure, STANDARD};
+use captures::next_record;
+use files::{open, said, write, Failure, STANDARD};
 use std::collections::HashMap;
 use std::path::Path;
 use std::process::ExitCode;

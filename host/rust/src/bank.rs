@@ -1,5 +1,5 @@
 //! The bank, and the calls on it.
-use crate::{slices, LaneMap, Picture, Refusal, Tile, Written};
+use crate::{slices, Checked, LaneMap, Picture, Refusal, Tile, Written};
 
 /// The bytes of a bank, and of a key.
 pub const BANK_BYTES: usize = 4096;
@@ -357,6 +357,29 @@ impl Bank {
         let mut bytes = [0; BANK_BYTES];
         let kept = slices::key(&self.bytes, tile, lane, &mut bytes)?;
         Ok(Key { bytes, kept })
+    }
+
+    /// Whether an offered key is the one that [`Bank::key`] cuts for this tile and lane; where it is not, the lowest wrong address and
+    /// what is wrong there. For keys that another program made, with the bank that each was cut from.
+    ///
+    /// A key that keeps a repeating tile whole has bytes left over: the first is past the visible columns and rows, and not zero.
+    ///
+    /// ```
+    /// use tulonkasa::{Bank, Checked, Tile};
+    ///
+    /// let bank = Bank::from([9; 4096]);
+    /// let tile = Tile { fmt: 4, siz: 1, masks: 1, line: 1, width: 4, height: 1, ..Tile::default() };
+    /// let mut offer = bank.key(&tile, 0)?.bytes;
+    /// assert!(bank.check_key(&tile, 0, &offer)?.is_right());
+    ///
+    /// offer[2] = 9; // a third column, which the tile does not show
+    /// assert_eq!(bank.check_key(&tile, 0, &offer)?, Checked::LeftOver { address: 2 });
+    /// offer[1] = 0;
+    /// assert_eq!(bank.check_key(&tile, 0, &offer)?.to_string(), "the byte at address 1 is missing");
+    /// # Ok::<(), tulonkasa::Refusal>(())
+    /// ```
+    pub fn check_key(&self, tile: &Tile, lane: u32, offer: &[u8; BANK_BYTES]) -> Result<Checked, Refusal> {
+        slices::check_key(&self.bytes, tile, lane, offer)
     }
 
     /// Does a record of a capture: a load, or the question for a key, which changes nothing. Answers the count of stores, but not

@@ -70,6 +70,16 @@ pub struct ReasonAnswer {
     pub reason: u32,
 }
 
+/// A refusal; 1 if an offered key is right, else 0; and of one that is not the lowest wrong address, and what is wrong there.
+#[repr(C)]
+#[derive(Clone, Copy, Debug, PartialEq, Eq)]
+pub struct CheckAnswer {
+    pub refusal: u32,
+    pub yes: u32,
+    pub address: u32,
+    pub wrong: u32,
+}
+
 /// A refusal, and how many entries are for tuning and how many are held out.
 #[repr(C)]
 #[derive(Clone, Copy, Debug, PartialEq, Eq)]
@@ -119,6 +129,19 @@ loads! {
 }
 
 extern "C" {
+    pub fn tk_decode_linear(
+        source: *const u8,
+        source_length: usize,
+        fmt: u32,
+        siz: u32,
+        palette: u32,
+        width: u32,
+        height: u32,
+        stride: u32,
+        picture: *mut u8,
+        picture_length: usize,
+    ) -> Answer;
+
     pub fn tk_write_pam(
         width: u32,
         height: u32,
@@ -178,4 +201,7 @@ entries! {
     fn tk_rejection(; tile, reasons: *const u8, reasons_length: usize) -> ReasonAnswer;
 
     fn tk_key(bank: *const u8, bank_length: usize; tile, lane: u32, key: *mut u8, key_length: usize) -> Answer;
+
+    fn tk_check_key(bank: *const u8, bank_length: usize; tile, lane: u32, offer: *const u8, offer_length: usize)
+        -> CheckAnswer;
 }

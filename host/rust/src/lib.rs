@@ -1,5 +1,6 @@
 //! Texture memory of a cartridge game console: loads, which of them wrote a byte and why its source was rejected if it was, pictures
-//! (as files too), a key for each picture, the replay of captured loads, and the [`split`] of captures into tuning and held-out ones.
+//! (as files, and straight from a source too), a key for each picture, the check of keys that were made elsewhere, the replay of captured
+//! loads, and the [`split`] of captures into tuning and held-out ones.
 //!
 //! The work is done by a static library whose every function is proved to meet its contract on every input. This crate
 //! gives it Rust's types: a [`Bank`] of memory, a [`Tile`] that says how to read it, and a [`Refusal`] where a number is out
@@ -24,6 +25,7 @@
 //! ```
 
 mod bank;
+mod check;
 pub mod ffi;
 mod map;
 mod picture;
@@ -34,6 +36,7 @@ mod tile;
 mod written;
 
 pub use bank::{Bank, Key, Loaded, Observed, BANK_BYTES, LOOKUP_TEXELS, REASON_BYTES, REASON_MOST};
+pub use check::Checked;
 pub use map::{AddressMap, LaneMap, Map};
 pub use picture::{Picture, PAM_HEADER_MOST};
 pub use refusal::Refusal;

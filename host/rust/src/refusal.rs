@@ -12,9 +12,9 @@ pub enum Refusal {
     Tile,
     /// 3: mode or lane is above 3.
     ModeOrLane,
-    /// 4: a number of the load, or the length of its source, is out of range.
+    /// 4: a number of the load or of the decoding of a source, or the source's length, is out of range.
     Load,
-    /// 5: the mode does not accept this pair of format and size.
+    /// 5: the mode does not accept this pair of format and size, or it has no linear reading.
     Pair,
     /// 6: the picture's buffer is shorter than 4 bytes a texel, or the file's than the file.
     Picture,
@@ -114,8 +114,8 @@ impl fmt::Display for Refusal {
             Self::Length => "a bank, key, written record or map, or the reasons, have a wrong length",
             Self::Tile => "a field of the tile is out of range, or a side of the picture",
             Self::ModeOrLane => "mode or lane is above 3",
-            Self::Load => "a number of the load or its source's length is out of range",
-            Self::Pair => "the mode does not accept this pair of format and size",
+            Self::Load => "a number of the load or decoding, or its source's length, is out of range",
+            Self::Pair => "the mode does not accept this pair of format and size, or it has no linear reading",
             Self::Picture => "the buffer of the picture or of its file is too short",
             Self::Trail => "the trail's buffer is too short",
             Self::Torn => "a record has fewer than 48 bytes",

@@ -1,6 +1,6 @@
 //! The archive's calls on lent slices of any length, for callers that keep their own buffers. `include/tulonkasa.h` says what
 //! each takes, refuses, answers and leaves. All of this crate's unsafe code is here.
-use crate::{ffi, Entry, Loaded, Refusal, Sampling, Tile, Totals, ENTRY_BYTES};
+use crate::{ffi, Checked, Entry, Loaded, Refusal, Sampling, Tile, Totals, ENTRY_BYTES};
 
 /// Calls an entry of [`ffi`]. Around the tile, whose twelve numbers are passed, stand numbers, and slices as `[slice]`
 /// to be read or `[mut slice]` to be written.
@@ -115,6 +115,27 @@ pub fn sampling_lookup_observed(
     counted(call!(tk_sampling_lookup_observed([bank], tile, lane, [mut picture], [mut trail])))
 }
 
+/// Decodes a source to a picture, without a bank, and answers the count of source bytes that were asked for. Of the tile it takes `fmt`,
+/// `siz`, `palette`, `width` and `height`.
+pub fn decode_linear(source: &[u8], tile: &Tile, stride: u32, picture: &mut [u8]) -> Result<u32, Refusal> {
+    // SAFETY: each pointer comes with its slice's length, and Rust's borrows do not overlap.
+    let answer = unsafe {
+        ffi::tk_decode_linear(
+            source.as_ptr(),
+            source.len(),
+            tile.fmt,
+            tile.siz,
+            tile.palette,
+            tile.width,
+            tile.height,
+            stride,
+            picture.as_mut_ptr(),
+            picture.len(),
+        )
+    };
+    counted(answer)
+}
+
 /// Writes a picture as a PAM file, and answers the count of the file's bytes. A file of [`crate::PAM_HEADER_MOST`] bytes and four
 /// a texel is long enough.
 pub fn write_pam(width: u32, height: u32, picture: &[u8], file: &mut [u8]) -> Result<u32, Refusal> {
@@ -160,6 +181,13 @@ pub fn palette_nonreplicated(bank: &[u8], map: &mut [u8]) -> Result<(), Refusal>
 /// Overwrites the key, and answers the count of kept bytes.
 pub fn key(bank: &[u8], tile: &Tile, lane: u32, key: &mut [u8]) -> Result<u32, Refusal> {
     counted(call!(tk_key([bank], tile, lane, [mut key])))
+}
+
+/// Answers whether the offer is the key, and what is wrong with it where it is not.
+pub fn check_key(bank: &[u8], tile: &Tile, lane: u32, offer: &[u8]) -> Result<Checked, Refusal> {
+    let (offered, length) = (offer.as_ptr(), offer.len());
+    let answer = call!(tk_check_key([bank], tile, lane, offered, length));
+    Refusal::check(answer.refusal, Checked::from_numbers(answer.yes, answer.address, answer.wrong))
 }
 
 /// Does a record of a capture, and answers the count of its stores, or of the bytes that its key would keep. `last` is the number of the

@@ -24,6 +24,7 @@ const KEY_AT: usize = LANE_AT + 1;
 /// assert_eq!(entry.capture(), 7);
 /// assert_eq!(entry.body()[..2], [4, 1]); // fmt and siz
 /// assert_eq!(entry.body()[16..20], [0, 9, 9, 0]); // the lane, and the key's first bytes
+/// assert_eq!((entry.tile(), entry.lane(), entry.key()[..3].to_vec()), (tile, 0, vec![9, 9, 0]));
 /// # Ok::<(), tulonkasa::Refusal>(())
 /// ```
 #[derive(Clone, PartialEq, Eq, Hash)]
@@ -60,6 +61,21 @@ impl Entry {
     /// The number of its capture, which does not matter to a split.
     pub fn capture(&self) -> u32 {
         u32::from_be_bytes([self.0[0], self.0[1], self.0[2], self.0[3]])
+    }
+
+    /// Its tile and mode, whose numbers may be out of range.
+    pub fn tile(&self) -> Tile {
+        Tile::from_bytes(self.0[BODY_AT..].first_chunk().expect("a tile's bytes"))
+    }
+
+    /// Its lane, which may be out of range.
+    pub fn lane(&self) -> u32 {
+        self.0[LANE_AT].into()
+    }
+
+    /// Its key, which may be any bytes.
+    pub fn key(&self) -> &[u8; BANK_BYTES] {
+        self.0.last_chunk().expect("a key's bytes")
     }
 
     /// What entries of one group have in common: the tile's sixteen bytes, the lane's one, and the key.

@@ -2,7 +2,7 @@
 use crate::{slices, AddressMap, Refusal};
 
 /// The width and height of a tile or a picture are at most this.
-pub const SIDE_MOST: u32 = 1024;
+pub const SIDE_MOST: u32 = 4096;
 
 /// The bytes of a tile and its mode as a capture's record has them.
 pub const TILE_BYTES: usize = 16;
@@ -126,6 +126,36 @@ impl Tile {
         let mut map = AddressMap::default();
         slices::reach(self, &mut map.0)?;
         Ok(map)
+    }
+
+    /// Decodes a source straight to a picture, without a bank: `width` by `height` texels of four bytes, the source's rows `stride` bytes
+    /// apart, and zeros past its end. Every pair that mode 0 accepts has such a reading but (2,3); an indexed texel is the index itself. Of
+    /// the tile it takes `fmt`, `siz`, `palette`, `width` and `height`; `include/tulonkasa.h` says which bytes a texel takes.
+    ///
+    /// What goes in comes out: it is the picture that [`Bank::sample_tile`](crate::Bank::sample_tile) makes in mode 0 or 1 after
+    /// [`Bank::load_tile`](crate::Bank::load_tile) of the same source and stride into any bank, where the image has the tile's size, the
+    /// load has `height` rows, at most 256, of as many words as the width needs, a row fits the line, and all lines are inside the bank.
+    ///
+    /// ```
+    /// use tulonkasa::{Bank, Refusal, Tile};
+    ///
+    /// let tile = Tile { fmt: 0, siz: 3, line: 1, width: 1, height: 2, ..Tile::default() };
+    /// let source = [255, 0, 0, 255, 0, 0, 255, 128];
+    /// assert_eq!(tile.decode_linear(&source, 4)?, source);
+    ///
+    /// let mut bank = Bank::from([7; 4096]);
+    /// bank.load_tile(&source, &tile, 3, 2, 1, 4)?;
+    /// assert_eq!(bank.sample_tile(&tile, 0)?, source);
+    ///
+    /// assert_eq!(Tile { fmt: 2, ..tile }.decode_linear(&source, 4), Err(Refusal::Pair));
+    /// # Ok::<(), Refusal>(())
+    /// ```
+    pub fn decode_linear(&self, source: &[u8], stride: u32) -> Result<Vec<u8>, Refusal> {
+        // A side past the limit is refused, whatever is lent.
+        let texels = self.width.min(SIDE_MOST) as usize * self.height.min(SIDE_MOST) as usize;
+        let mut picture = vec![0; 4 * texels];
+        slices::decode_linear(source, self, stride, &mut picture)?;
+        Ok(picture)
     }
 
     /// The texels of the tile's plain picture, once its numbers are found in range.

@@ -1,4 +1,5 @@
 //! One comparison's input: plain numbers, so that a failing one can be printed and made smaller.
+use crate::linear;
 use original::calls::{Load, Picture};
 use original::TileDescriptor;
 use std::fmt;
@@ -13,13 +14,43 @@ pub enum Call {
     LoadTlut,
     LoadTlutRows,
     Sampling,
-    Picture { which: Picture, observed: bool },
+    Picture {
+        which: Picture,
+        observed: bool,
+    },
     Reach,
     TileHasLoad,
     Rejection,
     PaletteNonreplicated,
     Key,
+    /// A source decoded without a bank.
+    Linear,
+    /// The same, of a source whose tile load and picture give the same.
+    RoundTrip,
+    CheckKey,
 }
+
+/// A key that is offered.
+#[derive(Clone, Copy, Debug, PartialEq, Eq)]
+pub enum Offer {
+    Right,
+    /// With the tile's masks taken as 0: the bytes that the whole picture reads, or, of a lookup, some others.
+    Whole,
+    Bank,
+    Zero,
+}
+
+pub const OFFERS: [Offer; 4] = [Offer::Right, Offer::Whole, Offer::Bank, Offer::Zero];
+
+/// How a byte of an offer is changed; any further number changes nothing.
+#[derive(Clone, Copy, Debug, PartialEq, Eq)]
+pub enum Change {
+    ToZero,
+    ToTheBanks,
+    ByABit,
+}
+
+pub const CHANGES: [Change; 3] = [Change::ToZero, Change::ToTheBanks, Change::ByABit];
 
 /// What a buffer that is lent to be read holds.
 #[derive(Clone, Copy, Debug, PartialEq, Eq)]
@@ -36,10 +67,12 @@ pub struct Case {
     pub call: Call,
     pub tile: Tile,
     pub lane: u32,
+    /// For `CheckKey`: what is offered, by its place in [`OFFERS`].
     pub image_siz: u32,
     /// dxt and words; or rows, words and stride; or count, rows and stride. For `TileHasLoad`: the word address, words and
     /// rows of the tile load that writes before the question. For `Rejection`: three addresses that have a reason; a larger number
-    /// for none.
+    /// for none. For `Linear` and `RoundTrip`: the stride. For `CheckKey`: three bytes of the offer that are changed, each 4,096 times the
+    /// [`Change`] and its address.
     pub numbers: [u32; 3],
     /// With a reason a load is a rejected one.
     pub reason: Option<u32>,
@@ -52,8 +85,8 @@ pub struct Case {
     pub seed: u64,
 }
 
-/// How a load goes through its source: so many pieces of so many bytes, each so far behind the one before. Sources are chosen by
-/// it; nothing is compared with it.
+/// How a load, or the decoding of a source, goes through it: so many pieces of so many bytes, each so far behind the one before. Sources
+/// are chosen by it; nothing is compared with it.
 #[derive(Clone, Copy)]
 pub struct Pieces {
     pub count: u32,
@@ -99,6 +132,14 @@ impl Case {
         }
     }
 
+    /// The bytes of the offer that are changed, with their addresses.
+    pub fn changes(&self) -> impl Iterator<Item = (Change, usize)> + '_ {
+        self.numbers.iter().filter_map(|&number| {
+            let (change, address) = (number as usize / 4096, number as usize % 4096);
+            Some((*CHANGES.get(change)?, address))
+        })
+    }
+
     /// Whether the load is a palette's, which has a row at least.
     pub fn is_tlut(&self) -> bool {
         matches!(self.call, Call::LoadTlut | Call::LoadTlutRows)
@@ -109,13 +150,14 @@ impl Case {
         self.numbers[1] == 1 && self.image_siz > 0
     }
 
-    /// How the load goes through its source.
+    /// How the source is gone through.
     pub fn pieces(&self) -> Pieces {
         let [a, b, c] = self.numbers;
         let (count, bytes, apart) = match (self.call, self.image_siz) {
             (Call::LoadBlock, _) => (b, 8, 8),
             (Call::LoadTlut, 1 | 3) if b == 1 => (a.div_ceil(16 >> self.image_siz), 2, 8),
             (Call::LoadTlut | Call::LoadTlutRows, _) => (b, 2 * a, c),
+            (Call::Linear | Call::RoundTrip, _) => (self.tile.height, linear::row_bytes(&self.tile), a),
             _ => (a, 8 * b, c),
         };
         Pieces { count, bytes, apart }

@@ -1,14 +1,16 @@
 //! One case, done by the original and by the archive: answers, buffers, and bytes that must not have changed.
 use crate::buffers::{asked_reasons, found_reasons, Buffers};
-use crate::case::{descriptor, Call, Case, Fill};
+use crate::case::{descriptor, Call, Case, Change, Fill, Offer, OFFERS};
 use crate::input::Input;
+use crate::linear;
 use crate::numbers;
 use crate::program::Program;
 use crate::random::Random;
 use crate::replay;
-use original::calls::{self, Bytes, Counted, Map, Memory, Picture, Reach};
+use original::calls::{self, Bytes, Counted, Load, Map, Memory, Picture, Reach};
+use original::TileDescriptor;
 use std::ops::AddAssign;
-use tulonkasa::{slices, Loaded, Refusal, Sampling, Tile, LOOKUP_TEXELS};
+use tulonkasa::{slices, Checked, Loaded, Refusal, Sampling, Tile, LOOKUP_TEXELS, SIDE_MOST};
 
 /// What a buffer that is lent to be written holds before.
 pub const BEFORE: u8 = 0xa5;
@@ -16,12 +18,17 @@ pub const BEFORE: u8 = 0xa5;
 /// So many bytes behind a lent picture or trail are looked at too.
 const FENCE: usize = 64;
 
+/// The texels of the largest picture, and the bytes of the bank that a texel reads at most.
+const TEXELS_MOST: usize = (SIDE_MOST * SIDE_MOST) as usize;
+const READS_MOST: usize = 4;
+
 /// How much was compared.
 #[derive(Clone, Copy, Default)]
 pub struct Amount {
     pub calls: u64,
     pub refused: u64,
     pub reasons: u64,
+    pub wrong: u64,
     pub stores: u64,
     pub made_up: u64,
     pub texels: u64,
@@ -33,6 +40,7 @@ impl AddAssign for Amount {
         self.calls += other.calls;
         self.refused += other.refused;
         self.reasons += other.reasons;
+        self.wrong += other.wrong;
         self.stores += other.stores;
         self.made_up += other.made_up;
         self.texels += other.texels;
@@ -58,8 +66,8 @@ impl Workspace {
         Self {
             bank: Box::new([0; 4096]),
             source: vec![0; 65536],
-            picture: vec![BEFORE; (4 << 20) + 2 * FENCE],
-            trail: vec![BEFORE; (8 << 20) + 2 * FENCE],
+            picture: vec![BEFORE; 4 * TEXELS_MOST + 2 * FENCE],
+            trail: vec![BEFORE; 2 * READS_MOST * TEXELS_MOST + 2 * FENCE],
             expected_trail: Vec::new(),
             reach: Reach::default(),
             asked: Memory::fresh(),
@@ -87,15 +95,17 @@ impl Workspace {
             Call::Rejection => self.rejection(case),
             Call::PaletteNonreplicated => lanes(&bank),
             Call::Key => key(&self.bank, case),
+            Call::Linear => self.linear(case),
+            Call::RoundTrip => self.round_trip(case),
+            Call::CheckKey => check_key(&self.bank, case),
         }?;
         same("the bank that was lent to be read", &bank[..], &self.bank[..])?;
         Ok(Amount { calls: 1, ..amount })
     }
 
     fn load(&mut self, case: &Case) -> Result<Amount, String> {
-        let source = &mut self.source[..case.source_length as usize];
-        fill(source, case.fill, case.seed + 1);
-        let untouched = source.to_vec();
+        let untouched = self.source(case);
+        let source = &self.source[..untouched.len()];
         let before = Buffers {
             bank: *self.bank,
             written: numbers::found(case.fill, case.seed + 2),
@@ -185,6 +195,65 @@ impl Workspace {
             (Picture::Lookup, false) => slices::sampling_lookup(bank, tile, lane, picture),
             (Picture::Lookup, true) => slices::sampling_lookup_observed(bank, tile, lane, picture, trail),
         }
+    }
+
+    /// The model's picture, which has to be the original's too, save of the one pair that the original alone decodes.
+    fn linear(&mut self, case: &Case) -> Result<Amount, String> {
+        let (tile, source) = (&case.tile, self.source(case));
+        let model = linear::model(tile, case.numbers[0], &source);
+        if linear::against(case) != linear::Against::Nothing && (tile.fmt, tile.siz) != (2, 3) {
+            let original = linear::original(case, &source);
+            same_answer(
+                original.as_ref().map(Vec::len).ok_or(Refusal::Pair),
+                model.as_ref().map(|(made, _)| made.len()).ok_or(Refusal::Pair),
+            )?;
+            same("the model's picture", &original.unwrap_or_default(), &model.clone().unwrap_or_default().0)?;
+        }
+        self.decoded(case, &source, model)
+    }
+
+    /// The picture that the original makes after its own load into the bank. Tiles of which it need not be the same are met only while
+    /// a failing case is made smaller.
+    fn round_trip(&mut self, case: &Case) -> Result<Amount, String> {
+        let (tile, source) = (descriptor(&case.tile), self.source(case));
+        let Some((_, reads)) = linear::model(&case.tile, 0, &[]).filter(|_| linear::fits(&case.tile)) else {
+            return Ok(Amount::default());
+        };
+        let mut memory = Memory::new(&self.bank);
+        let (rows, words) = (case.tile.height as usize, linear::row_words(&case.tile) as usize);
+        memory.load(&source, &tile, tile.siz, Load::Tile { rows, words, stride: case.numbers[0] as usize });
+        let (mode, lane) = (case.tile.mode as u8, case.lane as usize);
+        let picture = calls::picture(&memory.bytes(), &tile, mode, lane, Picture::Plain);
+        self.decoded(case, &source, picture.map(|picture| (picture, reads)))
+    }
+
+    /// The case's source.
+    fn source(&mut self, case: &Case) -> Vec<u8> {
+        let source = &mut self.source[..case.source_length as usize];
+        fill(source, case.fill, case.seed + 1);
+        source.to_vec()
+    }
+
+    /// The archive's decoding of a source, against the picture that is due with its count of reads; none for a pair that is refused.
+    fn decoded(&mut self, case: &Case, source: &[u8], due: Option<(Vec<u8>, u32)>) -> Result<Amount, String> {
+        let needed = 4 * (case.tile.width * case.tile.height) as usize;
+        let length = lent(needed, case.surplus, -1);
+        let answered = match &due {
+            None => Err(Refusal::Pair),
+            Some(_) if length < needed => Err(Refusal::Picture),
+            Some((_, reads)) => Ok(*reads),
+        };
+        self.picture[..length + FENCE].fill(BEFORE);
+        let lent_source = &self.source[..source.len()];
+        same_answer(
+            answered,
+            slices::decode_linear(lent_source, &case.tile, case.numbers[0], &mut self.picture[..length]),
+        )?;
+        same("the source", source, lent_source)?;
+        let made = due.filter(|_| answered.is_ok()).map_or_else(Vec::new, |(made, _)| made);
+        same_front("the picture", &made, &self.picture[..length + FENCE])?;
+        let (texels, reads) = (made.len() as u64 / 4, answered.unwrap_or(0).into());
+        Ok(Amount { texels, reads, refused: answered.is_err().into(), ..Amount::default() })
     }
 
     fn reach(&self, case: &Case) -> Result<Amount, String> {
@@ -308,6 +377,55 @@ fn key(bank: &Bytes, case: &Case) -> Result<Amount, String> {
     let refused = expected.is_none().into();
     same("the key", &expected.map_or([BEFORE; 4096], |(key, _)| key), &key)?;
     Ok(Amount { refused, ..Amount::default() })
+}
+
+/// What is due of an offer is told by the addresses that the original reads, and by the sentences of document 02's item 13.
+fn check_key(bank: &Bytes, case: &Case) -> Result<Amount, String> {
+    let (tile, mode, lane) = (descriptor(&case.tile), case.tile.mode as u8, case.lane as usize);
+    let reads = calls::visible_reads(bank, &tile, mode, lane);
+    // Of a pair that is not accepted any will do.
+    let mut offer = match OFFERS[case.image_siz as usize] {
+        Offer::Right => reads.map_or([0; 4096], |kept| calls::kept(bank, &kept)),
+        Offer::Whole => {
+            let whole = TileDescriptor { masks: 0, maskt: 0, ..tile };
+            calls::key(bank, &whole, mode, lane).map_or([0; 4096], |(key, _)| key)
+        }
+        Offer::Bank => *bank,
+        Offer::Zero => [0; 4096],
+    };
+    change(&mut offer, bank, case);
+    let lent = offer;
+    let answer = slices::check_key(bank, &case.tile, case.lane, &lent);
+    let due = reads.map(|kept| checked(bank, &kept, &offer)).ok_or(Refusal::Pair);
+    same_answer(due, answer)?;
+    same("the offer that was lent to be read", &offer, &lent)?;
+    let wrong = due.is_ok_and(|checked| !checked.is_right()).into();
+    Ok(Amount { refused: due.is_err().into(), wrong, ..Amount::default() })
+}
+
+/// Changes bytes of an offer.
+fn change(offer: &mut Bytes, bank: &Bytes, case: &Case) {
+    for (change, address) in case.changes() {
+        match change {
+            Change::ToZero => offer[address] = 0,
+            Change::ToTheBanks => offer[address] = bank[address],
+            Change::ByABit => offer[address] ^= 1 << (case.seed % 8),
+        }
+    }
+}
+
+/// The lowest address at which the offer is not the key, and which of the sentences holds there.
+fn checked(bank: &Bytes, kept: &[bool; 4096], offer: &Bytes) -> Checked {
+    let wrong = |address: &usize| offer[*address] != if kept[*address] { bank[*address] } else { 0 };
+    let Some(lowest) = (0..4096).find(wrong) else { return Checked::Right };
+    let address = lowest as u16;
+    if kept[lowest] && bank[lowest] != 0 && offer[lowest] == 0 {
+        Checked::Missing { address }
+    } else if !kept[lowest] && offer[lowest] != 0 {
+        Checked::LeftOver { address }
+    } else {
+        Checked::AnotherValue { address }
+    }
 }
 
 /// A needed length with a surplus, or one byte short.

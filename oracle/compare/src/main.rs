@@ -10,6 +10,7 @@ mod capture;
 mod case;
 mod check;
 mod input;
+mod linear;
 mod numbers;
 mod program;
 mod random;
@@ -21,6 +22,7 @@ use capture::By;
 use case::Call;
 use check::{Amount, Workspace};
 use input::Input;
+use linear::Against;
 use program::Program;
 use random::Random;
 use std::process::ExitCode;
@@ -34,7 +36,7 @@ struct Work {
 }
 
 /// The kinds of comparison, as they are printed.
-const KINDS: [&str; 21] = [
+const KINDS: [&str; 26] = [
     "block loads",
     "tile loads",
     "TLUT loads",
@@ -53,6 +55,11 @@ const KINDS: [&str; 21] = [
     "rejections",
     "lane checks",
     "keys",
+    "linear, whole",
+    "linear, row by row",
+    "linear, by the model",
+    "loaded and sampled",
+    "checks of keys",
     "calls in a row",
     "replayed records",
     "replayed by program",
@@ -62,7 +69,7 @@ fn kind(input: &Input) -> usize {
     use original::calls::Picture::{Lookup, Plain};
     let case = match input {
         Input::Case(case) => case,
-        Input::Run(run) => return 18 + run.by as usize,
+        Input::Run(run) => return 23 + run.by as usize,
     };
     let rejected = usize::from(case.reason.is_some());
     match case.call {
@@ -78,6 +85,13 @@ fn kind(input: &Input) -> usize {
         Call::Rejection => 15,
         Call::PaletteNonreplicated => 16,
         Call::Key => 17,
+        Call::Linear => match linear::against(case) {
+            Against::Whole => 18,
+            Against::Rows => 19,
+            Against::Nothing => 20,
+        },
+        Call::RoundTrip => 21,
+        Call::CheckKey => 22,
     }
 }
 
@@ -156,10 +170,11 @@ fn print(works: &[Work], seed: u64, took: Duration) {
 }
 
 fn words(amount: &Amount) -> String {
-    let Amount { calls, refused, reasons, stores, made_up, texels, reads } = *amount;
+    let Amount { calls, refused, reasons, wrong, stores, made_up, texels, reads } = *amount;
     let parts = [
         (refused, "of them refused"),
         (reasons, "reasons answered"),
+        (wrong, "wrong keys"),
         (stores, "stores"),
         (made_up, "made up"),
         (texels, "texels"),

@@ -1,10 +1,11 @@
 //! Random numbers by a seed, and random cases and runs: near the limits as often as not.
 use crate::capture::place::*;
 use crate::capture::{By, Companion, Record, Run, BLOCK, END_BYTES, KEY, RECORD_BYTES, TILE, TLUT};
-use crate::case::{Call, Case, Fill, Pieces};
+use crate::case::{Call, Case, Fill, Pieces, CHANGES};
 use crate::input::Input;
+use crate::linear;
 use original::calls::Picture;
-use tulonkasa::Tile;
+use tulonkasa::{Tile, SIDE_MOST};
 
 /// SplitMix64.
 pub struct Random(u64);
@@ -48,10 +49,11 @@ impl Random {
         }
     }
 
-    /// A tile of a picture of at most so many texels.
+    /// A tile of a picture of at most so many texels. A quarter of the tiles may have the longest sides.
     fn tile(&mut self, texels: u32) -> Tile {
-        let width = self.near(1024);
-        let height = self.near(1024);
+        let most = self.pick(&[1024, 1024, 1024, SIDE_MOST]);
+        let width = self.near(most);
+        let height = self.near(most);
         Tile {
             fmt: self.pick(&[0, 0, 1, 2, 2, 3, 3, 4, 4, 5, 6, 7]),
             siz: self.to(3),
@@ -83,8 +85,18 @@ impl Random {
 
     /// A case of a call.
     fn case(&mut self, call: Call) -> Case {
-        let texels = if self.to(255) == 0 { 1 << 20 } else { 1 << 14 };
+        let texels = match self.to(4095) {
+            0 => SIDE_MOST * SIDE_MOST,
+            1..=16 => 1 << 20,
+            _ => 1 << 14,
+        };
         let mut case = Case::new(call, self.tile(texels));
+        if call == Call::RoundTrip {
+            case.tile = self.fitting_tile(case.tile.palette);
+        }
+        if call == Call::Linear && self.to(7) != 0 {
+            (case.tile.fmt, case.tile.siz) = self.pick(&linear::PAIRS);
+        }
         case.lane = self.to(3);
         case.image_siz = self.to(3);
         case.surplus = self.pick(&[0, 0, 0, 1, 2, 7, 64, -1, -2]);
@@ -99,6 +111,8 @@ impl Random {
             Call::LoadTlut | Call::LoadTlutRows => [self.near(1024), 1 + self.near(1023), self.near(65535)],
             Call::TileHasLoad => [self.near(511), self.near(3), self.near(2)],
             Call::Rejection => std::array::from_fn(|_| self.reasoned_address(&case.tile)),
+            Call::Linear | Call::RoundTrip => [self.stride(&case.tile), 0, 0],
+            Call::CheckKey => std::array::from_fn(|_| self.change(&case.tile)),
             _ => [0; 3],
         };
         if case.is_tlut() && self.to(1) == 0 {
@@ -110,12 +124,41 @@ impl Random {
         if matches!(call, Call::LoadBlock | Call::LoadTile) || case.is_tlut() {
             case.reason = self.reason();
         }
+        if call == Call::CheckKey {
+            case.image_siz = self.pick(&[0, 0, 0, 0, 1, 1, 2, 3]);
+        }
         case.last = match call {
             Call::TileHasLoad => self.near(65534),
             _ => self.last(),
         };
         case.source_length = self.source_length(case.pieces());
+        if call == Call::Linear && self.to(1) == 0 {
+            case.source_length = case.pieces().end().min(65536);
+        }
         case
+    }
+
+    /// A tile whose picture after a load is that of its source.
+    fn fitting_tile(&mut self, palette: u32) -> Tile {
+        let (fmt, siz) = self.pick(&linear::PAIRS);
+        let lines = linear::lines_most(fmt, siz);
+        let line = self.near(lines.min(511));
+        let height = self.near(lines.checked_div(line).map_or(256, |most| most.min(256)));
+        let tmem_addr = self.near((lines - height * line).min(511));
+        let width = self.near(linear::width_most(siz, line));
+        Tile { fmt, siz, palette, mode: self.to(1), line, tmem_addr, width, height, ..Tile::default() }
+    }
+
+    /// A source's stride: mostly about a row's bytes, rows one behind the other as often as not; else any.
+    fn stride(&mut self, tile: &Tile) -> u32 {
+        let row = linear::row_bytes(tile);
+        match self.to(7) {
+            0 => self.near(65535),
+            1 => self.to(row),
+            2 => row + self.to(16),
+            3 => linear::row_words(tile) * 8,
+            _ => row,
+        }
     }
 
     /// The number of the load before: mostly one that leaves some, else one that leaves few or none.
@@ -146,6 +189,14 @@ impl Random {
             3 => self.to(4095),
             4 => (2047 + 128 * tile.palette + self.near(129)).min(4095),
             _ => (8 * row + self.near(row_bytes + 1) + self.pick(&[0, 0, 0, 2048])) % 4096,
+        }
+    }
+
+    /// A changed byte of an offer: at an address as of a reason, or none.
+    fn change(&mut self, tile: &Tile) -> u32 {
+        match self.reasoned_address(tile) {
+            4096 => 4096 * CHANGES.len() as u32,
+            address => 4096 * self.to(CHANGES.len() as u32 - 1) + address,
         }
     }
 
@@ -234,7 +285,7 @@ impl Random {
 }
 
 /// The calls, each as often as it is to be tried.
-const CALLS: [Call; 18] = [
+const CALLS: [Call; 22] = [
     Call::LoadBlock,
     Call::LoadTile,
     Call::LoadTlut,
@@ -253,4 +304,8 @@ const CALLS: [Call; 18] = [
     Call::Rejection,
     Call::PaletteNonreplicated,
     Call::Key,
+    Call::Linear,
+    Call::RoundTrip,
+    Call::CheckKey,
+    Call::CheckKey,
 ];

@@ -6,7 +6,7 @@ use crate::check::{archive_load, fill, number, same, same_answer, same_number, s
 use crate::numbers::{self, Written};
 use crate::program::Program;
 use original::calls::{self, Load, Memory};
-use tulonkasa::{slices, Refusal, Tile};
+use tulonkasa::{slices, Refusal, Tile, SIDE_MOST};
 
 /// A load's source has at most this many bytes.
 const SOURCE_MOST: u64 = 65536;
@@ -180,11 +180,12 @@ impl<'a> Original<'a> {
 fn refusal(record: &Record, end: u64) -> Option<Refusal> {
     let Tile { fmt, siz, palette, mode, cms, cmt, masks, maskt, line, tmem_addr, width, height } = record.tile();
     let load_fields = fmt > 7 || siz > 3 || line > 511 || tmem_addr > 511;
-    let other_fields = palette > 15 || cms > 3 || cmt > 3 || masks > 15 || maskt > 15 || width > 1024 || height > 1024;
+    let other_fields = palette > 15 || cms > 3 || cmt > 3 || masks > 15 || maskt > 15;
+    let sides = width.max(height) > SIDE_MOST;
     let Some(load) = record.load() else {
         return first(&[
             (record.kind() > KEY, Refusal::Kind),
-            (load_fields || other_fields, Refusal::Tile),
+            (load_fields || other_fields || sides, Refusal::Tile),
             (mode > 3 || record.lane() > 3, Refusal::ModeOrLane),
         ]);
     };

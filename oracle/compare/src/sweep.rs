@@ -1,10 +1,12 @@
 //! Cases by structure: every pair, mode and lane with the limits of the sizes, tiles that repeat, the limits of every load, small loads
-//! from sources of every length, with every kind of last number and of reason, and reasons about what a tile reaches.
+//! from sources of every length, with every kind of last number and of reason, reasons about what a tile reaches, sources decoded without
+//! a bank, those of which a load and its picture give the same, and offered keys.
 //! Runs of records: the limits of every number, several faults at a time, palettes about the pick between the two loads, keys of tiles that
 //! repeat, sources at the companion's end, and loads over each other's bytes until no number is left.
 use crate::capture::place::*;
 use crate::capture::{By, Companion, Record, Run, BLOCK, KEY, RECORD_BYTES, TILE, TLUT};
-use crate::case::{Call, Case, Fill};
+use crate::case::{Call, Case, Fill, CHANGES, OFFERS};
+use crate::linear;
 use original::calls::Picture;
 use std::collections::BTreeSet;
 use tulonkasa::{Tile, SIDE_MOST};
@@ -12,22 +14,22 @@ use tulonkasa::{Tile, SIDE_MOST};
 /// Width, height, line, word address.
 const SHAPES: [[u32; 4]; 14] = [
     [0, 0, 0, 0],
-    [0, 1024, 1, 0],
-    [1024, 0, 1, 0],
+    [0, SIDE_MOST, 1, 0],
+    [SIDE_MOST, 0, 1, 0],
     [1, 1, 0, 0],
     [1, 1, 511, 511],
     [1, 2, 1, 255],
     [2, 1, 1, 256],
     [3, 3, 1, 511],
     [16, 4, 8, 128],
-    [1024, 2, 511, 511],
-    [2, 1024, 511, 1],
+    [SIDE_MOST, 2, 511, 511],
+    [2, SIDE_MOST, 511, 1],
     [1, 257, 1, 0],
     [5, 258, 3, 300],
     [64, 64, 16, 0],
 ];
 
-/// Largest pictures, one for each of the byte counts that a texel takes.
+/// Large and largest pictures, one for each of the byte counts that a texel takes.
 const LARGEST: [[u32; 3]; 4] = [[0, 3, 0], [0, 2, 1], [4, 0, 0], [2, 1, 2]];
 
 /// cms, cmt, masks, maskt: no repeating, repeating inside the size, at it, past it, and past it but clamped.
@@ -100,6 +102,10 @@ const REASONED: [[u32; 5]; 8] = [
     [5, 2, 1, 7, 15],
 ];
 
+/// Width and height of sources that are decoded.
+const LINEAR: [[u32; 2]; 13] =
+    [[0, 0], [0, 3], [3, 0], [1, 1], [1, 2], [2, 2], [3, 3], [8, 2], [17, 5], [33, 4], [5, 257], [1024, 2], [2, 1024]];
+
 pub const PICTURES: [Call; 4] = [
     Call::Picture { which: Picture::Plain, observed: false },
     Call::Picture { which: Picture::Plain, observed: true },
@@ -121,6 +127,9 @@ pub fn cases() -> Vec<Case> {
     reasons_in_reach(&mut cases);
     reasons_in_palettes(&mut cases);
     banks(&mut cases);
+    linear_sources(&mut cases);
+    round_trips(&mut cases);
+    offers(&mut cases);
     cases
 }
 
@@ -148,8 +157,13 @@ fn tiles(cases: &mut Vec<Case>) {
         }
     }
     for [fmt, siz, mode] in LARGEST {
-        let tile = Tile { fmt, siz, mode, width: 1024, height: 1024, line: 257, tmem_addr: 77, ..Tile::default() };
-        cases.extend(PICTURES[..2].iter().map(|&call| Case::new(call, tile)));
+        for side in [1024, SIDE_MOST] {
+            let tile = Tile { fmt, siz, mode, width: side, height: side, line: 257, tmem_addr: 77, ..Tile::default() };
+            cases.extend(PICTURES[..2].iter().map(|&call| Case::new(call, tile)));
+            // Of an even line the key is that of the plain picture.
+            let tile = Tile { line: 258, ..tile };
+            cases.extend([Call::Sampling, Call::Reach, Call::Key].map(|call| Case::new(call, tile)));
+        }
     }
 }
 
@@ -159,26 +173,27 @@ fn repeating_tiles(cases: &mut Vec<Case>) {
         for tile in repeating(texel) {
             let of = |call| Case { lane: 2, ..Case::new(call, tile) };
             cases.extend([Call::Sampling, Call::Reach, Call::Key].map(of));
-            if tile.width * tile.height <= 4096 {
+            if tile.width * tile.height <= 5 * SIDE_MOST {
                 cases.push(of(PICTURES[1]));
             }
         }
     }
 }
 
-/// Tiles of a format, size and mode, in every way to clamp and mirror: every mask with sizes about what it repeats, across, down and
-/// both; and the walls.
+/// Tiles of a format, size and mode, in every way to clamp and mirror: every mask with sizes about what it repeats, across, down and,
+/// up to 1,024 texels a side, both; and the walls.
 fn repeating([fmt, siz, mode]: [u32; 3]) -> Vec<Tile> {
     let small = Tile { fmt, siz, mode, palette: 9, line: 2, tmem_addr: 300, width: 3, height: 5, ..Tile::default() };
     let mut tiles = Vec::new();
     for mask in 0..16 {
-        for size in sizes(mask) {
-            for cm in 0..4 {
-                let across = Tile { cms: cm, masks: mask, width: size, ..small };
-                let down = Tile { cmt: cm, maskt: mask, height: size, ..small };
-                let both = Tile { cms: cm, masks: mask, width: size, ..down };
-                tiles.extend([across, down, both]);
+        for cm in 0..4 {
+            let across = Tile { cms: cm, masks: mask, ..small };
+            let down = Tile { cmt: cm, maskt: mask, ..small };
+            let both = Tile { cms: cm, masks: mask, ..down };
+            for size in sizes(mask, SIDE_MOST) {
+                tiles.extend([Tile { width: size, ..across }, Tile { height: size, ..down }]);
             }
+            tiles.extend(sizes(mask, 1024).into_iter().map(|size| Tile { width: size, height: size, ..both }));
         }
     }
     for [width, height, line, masks, maskt] in WALLS {
@@ -191,9 +206,9 @@ fn repeating([fmt, siz, mode]: [u32; 3]) -> Vec<Tile> {
 }
 
 /// Sizes about 2^mask: below, equal, one above, and several times, each up to the most; and none and one.
-fn sizes(mask: u32) -> BTreeSet<u32> {
+fn sizes(mask: u32, most: u32) -> BTreeSet<u32> {
     let period = 1 << mask;
-    [0, 1, period - 1, period, period + 1, 3 * period + 1].map(|size| size.min(SIDE_MOST)).into()
+    [0, 1, period - 1, period, period + 1, 3 * period + 1].map(|size| size.min(most)).into()
 }
 
 /// Picture and trail: one byte short, exactly full, and longer by an odd and an even number.
@@ -371,6 +386,97 @@ fn banks(cases: &mut Vec<Case>) {
     }
 }
 
+/// Strides about a row's bytes, and the longest; and none.
+fn strides(tile: &Tile) -> BTreeSet<u32> {
+    let row = linear::row_bytes(tile);
+    [0, 1, row / 2, row.saturating_sub(1), row, row + 1, row + 8, 65535].into()
+}
+
+/// Cases of a source that is decoded: cut at its start, inside, at its end and beside that; and the longest.
+fn decodings(case: Case) -> impl Iterator<Item = Case> {
+    let end = case.pieces().end();
+    let lengths = BTreeSet::from([0, 1, end / 2, end.saturating_sub(1), end, end + 1, 65535, 65536]);
+    lengths.into_iter().filter(|&length| length <= 65536).map(move |source_length| Case { source_length, ..case })
+}
+
+/// Every pair, those that are refused as well, in fewer sizes; even and odd sizes and the largest, strides and sources about what they
+/// need; and pictures that are one byte short, full and longer.
+fn linear_sources(cases: &mut Vec<Case>) {
+    for pair in 0..32 {
+        let sizes = if linear::PAIRS.contains(&(pair / 4, pair % 4)) { LINEAR.len() } else { 5 };
+        for [width, height] in LINEAR.into_iter().take(sizes) {
+            let tile =
+                Tile { fmt: pair / 4, siz: pair % 4, palette: (pair + width) % 16, width, height, ..Tile::default() };
+            for stride in strides(&tile) {
+                let case = Case { numbers: [stride, 0, 0], ..Case::new(Call::Linear, tile) };
+                cases.extend(decodings(case));
+            }
+            let case =
+                Case { numbers: [linear::row_bytes(&tile), 0, 0], source_length: 99, ..Case::new(Call::Linear, tile) };
+            cases.extend([-1, 1, 2, 64].map(|surplus| Case { surplus, ..case }));
+        }
+    }
+}
+
+/// Tiles whose lines fit, in every pair: of no line, one, several and all; at the bank's start and up to its end; of widths up to the
+/// line's.
+fn round_trips(cases: &mut Vec<Case>) {
+    for (fmt, siz) in linear::PAIRS {
+        let most = linear::lines_most(fmt, siz);
+        let shapes = [[0, 7], [1, 0], [1, 1], [1, 3], [1, 256], [2, most / 2], [3, 5], [most / 2, 2], [most - 1, 1]];
+        for [line, height] in shapes {
+            let (last, widest) = ((most - line * height).min(511), linear::width_most(siz, line));
+            for tmem_addr in BTreeSet::from([0, last / 2, last]) {
+                for width in BTreeSet::from([0, 1, 2, widest / 2 + 1, widest.saturating_sub(1), widest]) {
+                    let tile = Tile { fmt, siz, palette: 13, line, tmem_addr, width, height, ..Tile::default() };
+                    for stride in strides(&tile).into_iter().filter(|_| width <= widest) {
+                        let case = Case { numbers: [stride, 0, 0], ..Case::new(Call::RoundTrip, tile) };
+                        cases.extend(decodings(case).zip([0, 1].iter().cycle()).map(|(case, &mode)| Case {
+                            tile: Tile { mode, ..tile },
+                            lane: width % 4,
+                            ..case
+                        }));
+                    }
+                }
+            }
+        }
+    }
+}
+
+/// Offered keys: in every pair and mode the right one and others; and the right one with a byte changed in each way at the ends of what the
+/// tile touches, alone and with another byte changed beside it. Then those of tiles that repeat.
+fn offers(cases: &mut Vec<Case>) {
+    for pair in 0..32 {
+        for mode in 0..4 {
+            for (lane, [width, height, line, tmem_addr, masks]) in (0..4).cycle().zip(REASONED) {
+                let (fmt, siz, palette) = (pair / 4, pair % 4, pair % 16);
+                let tile = Tile { fmt, siz, palette, mode, masks, line, tmem_addr, width, height, ..Tile::default() };
+                cases.extend((0..OFFERS.len()).map(|which| Case { lane, ..check(tile, which, [UNCHANGED; 3]) }));
+                let fill = [Fill::Random, Fill::Zero, Fill::Rising][pair as usize % 3];
+                for (i, address) in ends(&tile).into_iter().enumerate() {
+                    let changed = (0..CHANGES.len() as u32).map(|change| 4096 * change + address);
+                    cases.extend(changed.map(|one| Case { fill, lane, ..check(tile, 0, [one, UNCHANGED, UNCHANGED]) }));
+                    let other = [0, 63, 64, 2047, 2048, 4031, 4032, 4095][i % 8];
+                    cases.push(Case { lane, ..check(tile, 0, [address, 4096 * 2 + other, UNCHANGED]) });
+                }
+            }
+        }
+    }
+    for texel in REPEATING {
+        for tile in repeating(texel) {
+            cases.extend([0, 1].map(|which| Case { lane: 2, ..check(tile, which, [UNCHANGED; 3]) }));
+        }
+    }
+}
+
+/// In place of a changed byte.
+const UNCHANGED: u32 = 4096 * CHANGES.len() as u32;
+
+/// The check of an offer, by its place among them.
+fn check(tile: Tile, which: usize, numbers: [u32; 3]) -> Case {
+    Case { image_siz: which as u32, numbers, ..Case::new(Call::CheckKey, tile) }
+}
+
 /// The most that some kind takes of each of a record's numbers.
 const MOST: [(usize, u32); 20] = [
     (LANE, 3),
@@ -384,8 +490,8 @@ const MOST: [(usize, u32); 20] = [
     (MASKT, 15),
     (LINE, 511),
     (TMEM_ADDR, 511),
-    (WIDTH, 1024),
-    (HEIGHT, 1024),
+    (WIDTH, SIDE_MOST),
+    (HEIGHT, SIDE_MOST),
     (IMAGE_SIZ, 3),
     (DXT, 4095),
     (WORDS, 512),

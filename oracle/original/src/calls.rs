@@ -1,6 +1,7 @@
 //! The original's calls that are compared, each by its own function, on plain numbers and bytes.
 use crate::diag::DiagKind;
 use crate::hle::framebuffer_load::{FramebufferCopy, Tag, Tags};
+use crate::hle::texdec::FormatInfo;
 use crate::hle::tile_sampling::TileSampling;
 use crate::hle::tmem::{BankDecoder, Tmem};
 use crate::profiling;
@@ -207,9 +208,26 @@ pub fn picture_counted(
     Some((picture, reads))
 }
 
-/// The key, which the original has no call for: the bytes that the visible picture reads, and how many they are. The flag is the
-/// whole tile's. A lookup is whole; of a plain picture the original makes what is shown.
+/// A source by the original's linear decoder, without a palette; none where it has no decoder for the pair.
+pub fn linear(source: &[u8], tile: &TileDescriptor) -> Option<Vec<u8>> {
+    let format = FormatInfo { fmt: tile.fmt, siz: tile.siz };
+    format.decode(source, tile.width.into(), tile.height.into(), &[], tile.palette, 0).ok()
+}
+
+/// The key, which the original has no call for: the bytes that the visible picture reads, and how many they are.
 pub fn key(bank: &Bytes, tile: &TileDescriptor, mode: u8, lane: usize) -> Option<(Bytes, u32)> {
+    let read = visible_reads(bank, tile, mode, lane)?;
+    Some((kept(bank, &read), read.iter().map(|&read| u32::from(read)).sum()))
+}
+
+/// The bytes that are read, and zero for all others.
+pub fn kept(bank: &Bytes, read: &[bool; 4096]) -> Bytes {
+    std::array::from_fn(|address| if read[address] { bank[address] } else { 0 })
+}
+
+/// For each address whether the visible picture reads it. The flag is the whole tile's. A lookup is whole; of a plain picture the original
+/// makes what is shown.
+pub fn visible_reads(bank: &Bytes, tile: &TileDescriptor, mode: u8, lane: usize) -> Option<[bool; 4096]> {
     let mut read = [false; 4096];
     let reads = |address| read[address] = true;
     if sampling(tile, mode).0 == 1 {
@@ -217,13 +235,7 @@ pub fn key(bank: &Bytes, tile: &TileDescriptor, mode: u8, lane: usize) -> Option
     } else {
         decode(bank, &visible(tile), mode, lane, Picture::Plain, reads)?;
     }
-    let mut key = [0; 4096];
-    let mut kept = 0;
-    for (address, _) in read.iter().enumerate().filter(|(_, read)| **read) {
-        key[address] = bank[address];
-        kept += 1;
-    }
-    Some((key, kept))
+    Some(read)
 }
 
 /// The tile with its sides cut to what a renderer shows of them, as document 02's item 4 says. The original has no such cut.

@@ -1,8 +1,8 @@
 //! The Rust that this library comes from, compiled as it stands and as its profiling build, and its calls on plain numbers.
 //!
-//! Five files are the original's own, by their paths: diag, rdp, texdec, tile_sampling and tmem, which has behind_tmem.rs behind
-//! its text. Everything else that they
-//! name is a stand-in of this crate, no larger than they ask. [`calls`] is what a comparison uses.
+//! Five files are the original's own: diag, rdp and tile_sampling by their paths; tmem with behind_tmem.rs behind its text; texdec without
+//! the lines that keep its linear decoders for tests. So is the function decode_rgba16 of combiner. Everything else that they name is a
+//! stand-in of this crate, no larger than they ask. [`calls`] is what a comparison uses.
 #![allow(dead_code)]
 
 extern crate self as log;

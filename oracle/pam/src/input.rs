@@ -6,8 +6,7 @@ use tulonkasa::SIDE_MOST;
 pub const SIDES: [u32; 14] =
     [0, 1, 2, 9, 10, 99, 100, 999, 1000, SIDE_MOST - 1, SIDE_MOST, SIDE_MOST + 1, 1 << 16, u32::MAX];
 
-/// Pictures of more texels are left out of the sweep; random writes have one now and then. A side at the limit by one of at
-/// most 16 is not more, whatever the limit.
+/// Pictures of more texels are left out of the sweep. A side at the limit by one of at most 16 is not more, whatever the limit.
 pub const MANY: u32 = 16 * SIDE_MOST;
 
 /// So many bytes of a file are printed.

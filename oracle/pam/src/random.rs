@@ -1,7 +1,7 @@
 //! Random files by a seed, most of them near to a good one, and pictures to write.
 use crate::cases;
 use crate::draft::{join, needed, numbers, others, split, Draft, LINES, SPACES, TYPES};
-use crate::input::{pattern, Input, MANY, SIDES};
+use crate::input::{pattern, Input, SIDES};
 use pam::{spelling, texel_bytes};
 use tulonkasa::SIDE_MOST;
 
@@ -36,7 +36,12 @@ impl Random {
 
     fn write(&mut self) -> Input {
         let (width, mut height) = (self.pick(&SIDES), self.pick(&SIDES));
-        if width.saturating_mul(height) > MANY && self.to(255) != 0 {
+        let rare = match width.saturating_mul(height) {
+            0..=0x4000 => 0,
+            0x4001..=0x100000 => 255,
+            _ => 8191,
+        };
+        if self.to(rare) != 0 {
             height = 1;
         }
         let texels = if width.max(height) > SIDE_MOST { 64 } else { texel_bytes(width, height) };
@@ -84,7 +89,7 @@ impl Random {
     }
 
     fn draft(&mut self) -> Draft {
-        let (width, height) = match self.to(15) {
+        let (width, height) = match self.to(63) {
             0 => (SIDE_MOST, 1 + self.to(1) as u32),
             1 => (1 + self.to(1) as u32, SIDE_MOST),
             2 => (SIDE_MOST + 1, 1),

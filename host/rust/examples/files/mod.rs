@@ -1,17 +1,13 @@
-//! What the example programs share: their ends, files by name, and the records of a capture.
+//! What the example programs share: their ends, and files by name.
 use std::ffi::OsString;
 use std::fmt::Display;
 use std::fs::{self, File};
 use std::io::{self, Read, Write};
 use std::path::Path;
 use std::process::ExitCode;
-use tulonkasa::{Bank, Tile, BANK_BYTES, TILE_BYTES};
 
 /// The name of standard input and output.
 pub const STANDARD: &str = "-";
-
-/// A record is a tile and its mode, and a bank.
-pub const RECORD_BYTES: usize = TILE_BYTES + BANK_BYTES;
 
 /// Why nothing came of it.
 pub enum Failure {
@@ -37,17 +33,19 @@ pub fn run(name: &str, how_to_use: &str, program: impl FnOnce(&[OsString]) -> Re
     }
 }
 
-/// The next record of a capture, which has this number; none at the capture's end.
-pub fn next_record(input: &mut dyn Read, capture: &Path, number: u64) -> Result<Option<(Tile, Bank)>, Failure> {
-    let mut record = Vec::new();
-    input.take(RECORD_BYTES as u64).read_to_end(&mut record).map_err(|error| said(capture, error))?;
-    match record.split_first_chunk() {
-        Some((tile, bank)) if bank.len() == BANK_BYTES => {
-            let bank = <[u8; BANK_BYTES]>::try_from(bank).expect("as many bytes");
-            Ok(Some((Tile::from_bytes(tile), bank.into())))
-        }
-        None if record.is_empty() => Ok(None),
-        _ => Err(said(capture, format_args!("the file ends inside record {number}"))),
+/// The next so many bytes of a file; none at its end. They are a thing of this name and number.
+pub fn next_bytes<const N: usize>(
+    input: &mut dyn Read,
+    file: &Path,
+    name: &str,
+    number: u64,
+) -> Result<Option<[u8; N]>, Failure> {
+    let mut bytes = Vec::new();
+    input.take(N as u64).read_to_end(&mut bytes).map_err(|error| said(file, error))?;
+    match <[u8; N]>::try_from(&bytes[..]) {
+        Ok(whole) => Ok(Some(whole)),
+        Err(_) if bytes.is_empty() => Ok(None),
+        Err(_) => Err(said(file, format_args!("the file ends inside {name} {number}"))),
     }
 }
 

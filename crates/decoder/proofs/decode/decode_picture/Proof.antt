@@ -3,6 +3,7 @@ use Rattle.decoder.proofs.Outcomes.{refused, done}
 use Rattle.decoder.proofs.Within.{Allowed, allowed, ready}
 use Rattle.decoder.specs.Asked.{testsBy}
 use Rattle.rdp.specs.View.{tileOf}
+use Rattle.rules.specs.Tile.{sideLimit}
 use Rattle.rules.specs.Refusal.{first}
 use Rattle.rules.specs.Picture.{readsEach}
 use native.Mathlib.Omega.{arith}
@@ -27,7 +28,7 @@ each : (c : tie.After-texel-count) → let a = c .before .before .before .before
     c .before .tile-reads .result ≡ readsEach (tileOf (a .tile)) (a .«tlut-fmt»)
 each c = c .before .tile-reads .ensures .0
 
-few : (c : tie.After-texel-count) → c .before .tile-reads .result * c .texel-count .result ≤ 4194304
+few : (c : tie.After-texel-count) → c .before .tile-reads .result * c .texel-count .result ≤ 4 * (sideLimit * sideLimit)
 few c = mul-le-mul (c .before .tile-reads .ensures .1) (c .texel-count .ensures .1)
 
 first-refusal-requires : tie.Need-first-refusal-requires

@@ -4,7 +4,7 @@ use mathlib.Core.List.{List, _∷_}
 use Prim.Native.Nat.{ℕ}
 use borrow.Author.Needs.{needs}
 use Rattle.rules.specs.Refusal.{Outcome}
-use Rattle.rules.specs.Lister.{recordLine}
+use Rattle.rules.specs.Lister.{recordLineTo}
 use Rattle.listing.proofs.line.record_line.Statement.{statement}
 use Rattle.listing.proofs.line.record_line.Tie as tie
 
@@ -31,7 +31,7 @@ line-of-requires : tie.Need-line-of-requires
 line-of-requires c κs = search needs
 
 returns : tie.Need-returns
-unfolding recordLine
+unfolding recordLineTo
 returns c =
     let r = c .before .before in
     rw (← r .before .record-tile .ensures, ← r .record-mode .ensures) (ap shown (c .line-of .ensures))

@@ -1,4 +1,4 @@
--- `listing::line::texel_count` counts a lookup's texels or a plain picture's; 1,024 times 1,024 fits. Assumes nothing.
+-- `listing::line::texel_count` counts a lookup's texels or a plain picture's; `sideLimit` times `sideLimit` fits. Assumes nothing.
 use native.Mathlib.Omega.{arith}
 use native.Mathlib.Nat.{mul-le-mul}
 use borrow.Author.Needs.{needs}
