@@ -119,8 +119,8 @@ fn short_rows(reasons: &[u8], tile: TileDescriptor, tlut: u32, bytes: usize, row
     0
 }
 
-// That of all rows, up to their period. The first address is asked before all others: bytes that a rejected load left have their
-// reason there more often than not.
+// That of all rows, up to their period. The first address is asked before all others: where a rejected load stored the whole tile, its
+// reason is there.
 pub(crate) fn rows_reason(reasons: &[u8], tile: TileDescriptor, tlut: u32) -> u8
     requires { ⌜ length (now reasons) ≡ reasonsSize ⌝ }
     requires { ⌜ InRange (tileOf tile) ⌝ }
