@@ -491,6 +491,21 @@ impl Bench {
         }
         self.rejection("a reason in the last row, 8-bit tile of 1 by 256", &strip(1, 256), |address| address == 2044);
         self.rejection("a reason at the first address, 16-bit tile of 64 by 64", &square(0, 2, 0), |address| address == 0);
+        self.refused_question(&strip(1, 1));
+    }
+
+    /// What a call costs that does nothing: one that is refused for the length of its map, before all else.
+    fn refused_question(&mut self, tile: &Tile) {
+        let (old, mode) = (descriptor(tile), tile.mode as u8);
+        let memory = Memory::fresh();
+        let pair = race(
+            self.rounds,
+            || used(black_box(&memory).rejection(black_box(&old), mode)),
+            || {
+                black_box(slices::rejection(black_box(tile), black_box(&[]))).expect_err("no map");
+            },
+        );
+        println!("| a question that is refused at once, beside one of 1 by 1 | {} |", cells(pair));
     }
 
     /// With a reason at each address that is chosen.

@@ -2,7 +2,7 @@
 use mathlib.Core.Path.{_≡_}
 use mathlib.Core.Bool.{Bool, true, cond, _&&_, _||_}
 use mathlib.Core.List.{List}
-use Prim.Native.Nat.{ℕ, _+_, _*_, _-_, _/_, _%_, _^_, _≤_, min}
+use Prim.Native.Nat.{ℕ, _+_, _*_, _-_, _/_, _%_, _^_, _<_, _≤_, min}
 use lib.Bits.{bitAnd, bitOr}
 use lib.Dec.{ltb, leb}
 use Rattle.rules.specs.Base.{odd, tab, concat}
@@ -100,3 +100,7 @@ rowSpan t mode y =
 -- what a row's word has in the bytes that the row reaches: row k from an even one on whose word is `from` words on from row 0's
 abbrev pub rowLanes : List ℕ → Span → Span → ℕ → ℕ → ℕ → ℕ
 rowLanes m one other line from k = bitAnd (cond (odd k) (lanesIn other 0) (lanesIn one 0)) (eightIn m one (from + k * line))
+
+-- the fours of rows below n have nothing in their words, which are so many words on from row 0's
+abbrev pub BlankFours : List ℕ → Span → ℕ → ℕ → Type 0
+BlankFours m one line n = (i : ℕ) → i < n → ors 4 (λ k. eightIn m one (4 * i * line + k * line)) ≡ 0

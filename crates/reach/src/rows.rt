@@ -8,7 +8,7 @@ ghost use Rattle.rules.specs.Reach.{rowBytes, reachRow, reachPlain, firstReason
 ghost use Rattle.rdp.specs.View.{tileOf};
 ghost use Rattle.rules.specs.Tile.{bankSize, bankWords, reasonsSize, InRange};
 ghost use Rattle.reach.specs.Words.{ors};
-ghost use Rattle.reach.specs.Span.{Bounds, reached, rowLanes};
+ghost use Rattle.reach.specs.Span.{Bounds, reached, eightIn, rowLanes, BlankFours};
 use crate::extent;
 use crate::reason;
 use crate::span::Span;
@@ -102,7 +102,36 @@ fn four_rows(
     some_rows(reasons, tile, tlut, bytes, y, extent::lesser(y + 4, rows))
 }
 
-// That of rows of one word each.
+// The words of four rows in one number, each whole: the bytes that its row reaches, and those beside them.
+fn four_whole(reasons: &[u8], one: Span, line: usize, from: usize) -> u64
+    requires { ⌜ length (now reasons) ≡ reasonsSize ⌝ }
+    requires { ⌜ Bounds one × (line < bankWords) ⌝ }
+    requires { ⌜ from + 4 * bankWords ≤ bankSize * bankWords ⌝ }
+    ensures { λ r. ⌜ r ≡ ors 4 (λ k. eightIn (now (reasons .entry)) one (from + k * line)) ⌝ }
+{
+    let mut all = 0u64;
+    for k in 0..4 {
+        all = all | reason::eight_of(reasons, one, from + k * line);
+    }
+    all
+}
+
+// How many fours of rows have nothing in their words, from row 0 on.
+fn blank_fours(reasons: &[u8], one: Span, line: usize, fours: usize) -> usize
+    requires { ⌜ length (now reasons) ≡ reasonsSize ⌝ }
+    requires { ⌜ Bounds one × (line < bankWords) × (4 * fours ≤ bankSize) ⌝ }
+    ensures { λ r. ⌜ (r ≤ fours) × BlankFours (now (reasons .entry)) one line r ⌝ }
+{
+    for i in 0..fours {
+        if four_whole(reasons, one, line, 4 * i * line) != 0 {
+            return i;
+        }
+    }
+    fours
+}
+
+// That of rows of one word each. Most words have nothing, which is asked first: only after that the bytes that the rows reach are told
+// from those beside them.
 fn short_rows(reasons: &[u8], tile: TileDescriptor, tlut: u32, bytes: usize, rows: usize) -> u8
     requires { ⌜ length (now reasons) ≡ reasonsSize ⌝ }
     requires { ⌜ InRange (tileOf tile) ⌝ }
@@ -110,7 +139,10 @@ fn short_rows(reasons: &[u8], tile: TileDescriptor, tlut: u32, bytes: usize, row
     ensures { λ r. ⌜ r ≡ firstReason (now (reasons .entry)) (concat (tab rows (reachRow (tileOf tile) tlut))) ⌝ }
 {
     let fours = (rows + 3) / 4;
-    for i in 0..fours {
+    let line = tile.line.0 as usize;
+    let one = Span::of_row(tile, tlut, 0, bytes);
+    let blank = blank_fours(reasons, one, line, fours);
+    for i in blank..fours {
         let reason = four_rows(reasons, tile, tlut, bytes, 4 * i, rows);
         if reason != 0 {
             return reason;

@@ -51,7 +51,27 @@ pub(crate) fn repeats(cm: u32, mask: u32) -> bool
 fn past_size(cm: u32, mask: u32, size: u32) -> bool
     ensures { λ r. ⌜ r ≡ pastSize cm mask size ⌝ }
 {
-    repeats(cm, mask) & exceeds(mask, size)
+    if repeats(cm, mask) {
+        return exceeds(mask, size);
+    }
+    false
+}
+
+// The rule's four tests, one after the other: most tiles are told by the first of each.
+fn is_lookup(tile: TileDescriptor, tlut: u32) -> bool
+    ensures { λ r. ⌜ r ≡ flag (tileOf tile) tlut ⌝ }
+{
+    if past_size(tile.cms, tile.masks, tile.width) {
+        return true;
+    }
+    if past_size(tile.cmt, tile.maskt, tile.height) {
+        return true;
+    }
+    if 2 <= tlut {
+        return tile.fmt == 1;
+    }
+    let rgba32 = (tile.fmt == 0) & (tile.siz == 3);
+    (256 < tile.height) & (tile.line.0 % 2 == 1) & !rgba32
 }
 
 impl TileSampling {
@@ -59,13 +79,8 @@ impl TileSampling {
         ensures { λ r. ⌜ r .lookup ≡ flag (tileOf tile) tlut ⌝ }
         ensures { λ r. ⌜ (r .width ≡ max (tile .width) 1) × (r .height ≡ max (tile .height) 1) ⌝ }
     {
-        let past = past_size(tile.cms, tile.masks, tile.width)
-            | past_size(tile.cmt, tile.maskt, tile.height);
-        let rgba32 = (tile.fmt == 0) & (tile.siz == 3);
-        let tall_odd = (256 < tile.height) & (tile.line.0 % 2 == 1) & (tlut < 2) & !rgba32;
-        let yuv_tlut = (tile.fmt == 1) & (2 <= tlut);
         TileSampling {
-            lookup: past | tall_odd | yuv_tlut,
+            lookup: is_lookup(tile, tlut),
             width: at_least_one(tile.width),
             height: at_least_one(tile.height),
         }

@@ -2,14 +2,13 @@
 use mathlib.Core.Path.{_≡_, sym}
 use Prim.Native.Nat.{_*_, _≤_}
 use native.Mathlib.Omega.{arith}
-use native.Mathlib.Nat.{mul-le-mul}
 use borrow.Author.Needs.{needs}
 use Rattle.rdp.specs.View.{tileOf}
 use Rattle.reach.specs.Words.{ors}
 use Rattle.reach.specs.Span.{rowSpan, rowLanes}
 use Rattle.reach.proofs.Axes.{row-bytes-some}
 use Rattle.reach.proofs.Joined.{none-all, reason-search}
-use Rattle.reach.proofs.Short.{four-clear}
+use Rattle.reach.proofs.Short.{words-on, four-clear}
 use Rattle.reach.proofs.rows.four_rows.Statement.{statement}
 use Rattle.reach.proofs.rows.four_rows.Tie as tie
 
@@ -26,9 +25,7 @@ of-row-requires-2 c κs = search needs
 far : (c : tie.After-of-row2) → let a = c .before .before .before .before .args in a .y * a .tile .line .0 ≤ 4092 * 512
 far c =
     let s = c .before .before .before .before in
-    let rows : s .args .y ≤ 4092 = omega (arith, s .pre .1 .1 .1) in
-    let words : s .args .tile .line .0 ≤ 512 = omega (arith, s .pre .1 .0 .line) in
-    mul-le-mul rows words
+    words-on (s .args .y) 4092 _ (omega (arith, s .pre .1 .1 .1)) (omega (arith, s .pre .1 .0 .line))
 
 mul-four-words : tie.Need-mul-four-words
 mul-four-words c = omega (arith, far c)

@@ -4,12 +4,12 @@ use mathlib.Core.Bool.{cond}
 use Prim.Native.Nat.{_+_, _-_, _*_, _≤_}
 use native.Mathlib.Numerals.{add-one}
 use native.Mathlib.Omega.{arith}
-use native.Mathlib.Nat.{mul-le-mul}
 use lib.Bits.{bitAnd}
 use borrow.Author.Needs.{needs}
 use Rattle.rules.specs.Base.{odd}
 use Rattle.reach.specs.Words.{ors}
 use Rattle.reach.specs.Span.{eightIn}
+use Rattle.reach.proofs.Short.{words-on}
 use Rattle.reach.proofs.rows.four_words.Statement.{statement}
 use Rattle.reach.proofs.rows.four_words.Tie as tie
 
@@ -39,10 +39,7 @@ far : (c : tie.After-of-rows Inv-loop μ-loop) → let l = c .before .before in
     l .loop .k * a .line ≤ 3 * 512
 far c =
     let l = c .before .before in
-    let s = l .before .before .before .before in
-    let rows : l .loop .k ≤ 3 = omega arith in
-    let words : s .args .line ≤ 512 = omega (arith, s .pre .1 .0) in
-    mul-le-mul rows words
+    words-on (l .loop .k) 3 _ (omega arith) (l .before .before .before .before .pre .1 .0 .3)
 
 mul-eight-of : tie.Need-mul-eight-of Inv-loop μ-loop
 mul-eight-of c = omega (arith, far c)
