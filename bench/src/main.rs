@@ -17,6 +17,10 @@ const GOAL: f64 = 0.5;
 const GOAL_PICTURES_AND_LOADS: f64 = 0.25;
 const GOAL_SPLITS: f64 = 2.0;
 
+/// Those for keys, by the side of a square picture; the last serves larger ones and lookups too.
+const GOAL_LARGE_KEYS: f64 = 0.1;
+const GOAL_KEYS: [(u32, f64); 4] = [(1, 1.0), (8, 0.5), (32, GOAL_LARGE_KEYS), (64, GOAL_LARGE_KEYS)];
+
 /// The goal for the ratio of a check of a key to the key call itself.
 const GOAL_CHECKS: f64 = 1.2;
 
@@ -63,6 +67,7 @@ fn main() -> ExitCode {
     bench.linear();
     bench.loads();
     bench.others();
+    bench.keys();
     bench.checks();
     println!();
     bench.files(&[64, 1024]);
@@ -122,7 +127,7 @@ fn square(fmt: u32, siz: u32, mode: u32) -> Tile {
     Tile { fmt, siz, mode, palette: 3, line: 4 << siz.min(2), width: 64, height: 64, ..Tile::default() }
 }
 
-/// Tiles whose keys are cut and checked.
+/// Tiles whose keys are checked.
 fn keyed() -> [(&'static str, Tile); 6] {
     [
         ("16-bit tile of 64 by 64", square(0, 2, 0)),
@@ -386,9 +391,32 @@ impl Bench {
             self.reach_and_has_load(name, &tile);
         }
         self.rejections();
-        for (name, tile) in keyed() {
-            self.key(name, &tile);
+    }
+
+    /// Mode 1 reads as mode 0. In modes 2 and 3 format 2 stands for all but 1, whose picture is the lookup, and size 2 for 3.
+    fn keys(&mut self) {
+        println!("\nKeys, nanoseconds a key.\n");
+        println!("| picture | mode | pair | Rust | archive | ratio |");
+        println!("|---|---|---|---|---|---|");
+        let direct = || DIRECT.into_iter().map(|(fmt, siz)| square(fmt, siz, 0));
+        let paletted = |fmt| [2, 3].into_iter().flat_map(move |mode| [0, 1, 2].map(|siz| square(fmt, siz, mode)));
+        for (side, goal) in GOAL_KEYS {
+            for tile in direct().chain(paletted(2)) {
+                self.key_row(format!("{side} by {side}"), Tile { width: side, height: side, ..tile }, goal);
+            }
         }
+        let large = Tile { width: 1024, height: 1024, ..square(4, 1, 0) };
+        self.key_row("1,024 by 1,024".into(), large, GOAL_LARGE_KEYS);
+        for tile in direct().map(|tile| Tile { masks: 10, ..tile }).chain(paletted(1)) {
+            self.key_row("lookup".into(), tile, GOAL_LARGE_KEYS);
+        }
+    }
+
+    fn key_row(&mut self, picture: String, tile: Tile, goal: f64) {
+        let Tile { fmt, siz, mode, .. } = tile;
+        let pair = self.race_key(&tile);
+        let cells = self.judge(format!("key, {picture}, mode {mode}, ({fmt},{siz})"), pair, goal);
+        println!("| {picture} | {mode} | ({fmt},{siz}) | {cells} |");
     }
 
     /// The archive's own key call stands beside its check.
@@ -525,11 +553,6 @@ impl Bench {
         self.row(format!("rejection, {name}"), pair);
     }
 
-    fn key(&mut self, name: &str, tile: &Tile) {
-        let pair = self.race_key(tile);
-        self.row(format!("key, {name}"), pair);
-    }
-
     fn race_key(&self, tile: &Tile) -> Pair {
         let (old, mode, bank) = (descriptor(tile), tile.mode as u8, self.bank);
         let mut key = [0; 4096];
@@ -618,8 +641,9 @@ impl Bench {
 
     fn conclude(&self) {
         println!(
-            "\nGoals: {GOAL_PICTURES_AND_LOADS} for pictures and loads, {GOAL_CHECKS} for checks beside keys, {GOAL_SPLITS} for splits \
-             and {} ms, {GOAL} for the others. Above them: {}.",
+            "\nGoals: {GOAL_PICTURES_AND_LOADS} for pictures and loads, {} for keys, {GOAL_CHECKS} for checks \
+             beside keys, {GOAL_SPLITS} for splits and {} ms, {GOAL} for the others. Above them: {}.",
+            GOAL_KEYS.map(|(side, goal)| format!("{goal} at {side} by {side}")).join(", "),
             SPLIT_MOST / 1e6,
             self.above.len()
         );
