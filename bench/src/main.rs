@@ -14,7 +14,13 @@ use tulonkasa::{slices, Tile, LOOKUP_TEXELS, REASON_BYTES, SIDE_MOST, WRITTEN_BY
 
 /// The goals for the ratios of archive to original.
 const GOAL: f64 = 0.5;
-const GOAL_PICTURES_AND_LOADS: f64 = 0.25;
+const GOAL_LOADS: f64 = 0.25;
+
+/// For pictures and lookups, alone and with the trail; and for pictures by their sides.
+const GOAL_LARGE_PICTURES: (f64, f64) = (0.25, 0.33);
+const GOAL_PICTURES: [(u32, (f64, f64)); 4] =
+    [(1, (1.0, 1.0)), (8, (0.5, 0.5)), (32, GOAL_LARGE_PICTURES), (64, GOAL_LARGE_PICTURES)];
+
 const GOAL_SPLITS: f64 = 2.0;
 
 /// Those for keys, by the side of a square picture; the last serves larger ones and lookups too.
@@ -166,24 +172,42 @@ impl Bench {
         cells(pair)
     }
 
+    /// Every pair that a mode accepts, at the sides that have goals.
     fn pictures(&mut self) {
-        println!("Pictures of 64 by 64 texels, nanoseconds a picture.\n");
-        self.picture_table(
-            (0..4).flat_map(|mode| accepted(mode).into_iter().map(move |pair| (mode, pair))),
-            Picture::Plain,
-        );
+        println!("Pictures by their sides: the ratio alone, and with the trail. At 64 by 64, nanoseconds a picture too.\n");
+        let sides = GOAL_PICTURES.map(|(side, _)| format!("{side} by {side} | trail")).join(" | ");
+        println!("| mode | pair | {sides} | Rust | archive | Rust, trail | archive, trail |");
+        println!("|---|---|{}---|---|---|---|", "---|---|".repeat(GOAL_PICTURES.len()));
+        for mode in 0..4 {
+            accepted(mode).into_iter().for_each(|(fmt, siz)| self.picture_row(square(fmt, siz, mode)));
+        }
+    }
+
+    fn picture_row(&mut self, tile: Tile) {
+        let Tile { mode, fmt, siz, .. } = tile;
+        let [mut ratios, mut times] = [String::new(), String::new()];
+        for (side, goals) in GOAL_PICTURES {
+            let name = format!("picture of {side} by {side}, mode {mode}, ({fmt},{siz})");
+            let sized = Tile { width: side, height: side, ..tile };
+            let (alone, observed) = self.judge_picture(name, &sized, Picture::Plain, goals);
+            ratios += &format!(" {:.2} | {:.2} |", alone.ratio(), observed.ratio());
+            times = [alone.original, alone.archive, observed.original, observed.archive]
+                .map(|time| format!(" {time:.0} |"))
+                .concat();
+        }
+        println!("| {mode} | ({fmt},{siz}) |{ratios}{times}");
     }
 
     fn sizes(&mut self) {
-        println!("\nPictures of other sizes, nanoseconds a picture.\n");
+        println!("\nPictures of some kinds, nanoseconds a picture.\n");
         println!("| texels | mode | pair | Rust | archive | ratio | Rust, trail | archive, trail | ratio |");
         println!("|---|---|---|---|---|---|---|---|---|");
         for side in [1, 8, 16, 32, 128] {
             for (mode, (fmt, siz)) in [(0, (0, 2)), (0, (4, 1)), (2, (2, 0)), (2, (2, 1))] {
                 let tile = Tile { width: side, height: side, ..square(fmt, siz, mode) };
-                let name = format!("{side} by {side}, mode {mode}, ({fmt},{siz})");
-                let row = self.picture_cells(name, &tile, Picture::Plain);
-                println!("| {side} by {side} | {mode} | ({fmt},{siz}) | {row} |");
+                let alone = cells(self.race_picture(&tile, Picture::Plain));
+                let observed = cells(self.race_observed(&tile, Picture::Plain));
+                println!("| {side} by {side} | {mode} | ({fmt},{siz}) | {alone} | {observed} |");
             }
         }
     }
@@ -212,26 +236,22 @@ impl Bench {
         println!("\nLookups of 16,384 texels, nanoseconds a lookup.\n");
         let direct = DIRECT.iter().map(|&pair| (0, pair));
         let paletted = [2, 3].into_iter().flat_map(|mode| [(2, 0), (2, 1)].map(|pair| (mode, pair)));
-        self.picture_table(direct.chain(paletted), Picture::Lookup);
-    }
-
-    fn picture_table(&mut self, cases: impl Iterator<Item = (u32, (u32, u32))>, which: Picture) {
         println!("| mode | pair | Rust | archive | ratio | Rust, trail | archive, trail | ratio |");
         println!("|---|---|---|---|---|---|---|---|");
-        for (mode, (fmt, siz)) in cases {
+        for (mode, (fmt, siz)) in direct.chain(paletted) {
+            let name = format!("lookup, mode {mode}, ({fmt},{siz})");
             let tile = square(fmt, siz, mode);
-            let row = self.picture_cells(format!("{which:?} picture, mode {mode}, ({fmt},{siz})"), &tile, which);
-            println!("| {mode} | ({fmt},{siz}) | {row} |");
+            let (alone, observed) = self.judge_picture(name, &tile, Picture::Lookup, GOAL_LARGE_PICTURES);
+            println!("| {mode} | ({fmt},{siz}) | {} | {} |", cells(alone), cells(observed));
         }
     }
 
     /// A picture alone, and with its trail.
-    fn picture_cells(&mut self, name: String, tile: &Tile, which: Picture) -> String {
-        let alone = self.race_picture(tile, which);
-        let alone = self.judge(name.clone(), alone, GOAL_PICTURES_AND_LOADS);
-        let observed = self.race_observed(tile, which);
-        let observed = self.judge(name + " with trail", observed, GOAL_PICTURES_AND_LOADS);
-        format!("{alone} | {observed}")
+    fn judge_picture(&mut self, name: String, tile: &Tile, which: Picture, goals: (f64, f64)) -> (Pair, Pair) {
+        let (alone, observed) = (self.race_picture(tile, which), self.race_observed(tile, which));
+        self.judge(name.clone(), alone, goals.0);
+        self.judge(name + " with trail", observed, goals.1);
+        (alone, observed)
     }
 
     fn race_picture(&mut self, tile: &Tile, which: Picture) -> Pair {
@@ -373,7 +393,7 @@ impl Bench {
                 .expect("in range");
             },
         );
-        let cells = self.judge(format!("{name}, ({fmt},{siz}), image size {image_siz}"), pair, GOAL_PICTURES_AND_LOADS);
+        let cells = self.judge(format!("{name}, ({fmt},{siz}), image size {image_siz}"), pair, GOAL_LOADS);
         println!("| {name} | ({fmt},{siz}) | {image_siz} | {cells} |");
     }
 
@@ -641,8 +661,9 @@ impl Bench {
 
     fn conclude(&self) {
         println!(
-            "\nGoals: {GOAL_PICTURES_AND_LOADS} for pictures and loads, {} for keys, {GOAL_CHECKS} for checks \
+            "\nGoals: {} for pictures alone and with the trail, as the last of them for lookups, {GOAL_LOADS} for loads, {} for keys, {GOAL_CHECKS} for checks \
              beside keys, {GOAL_SPLITS} for splits and {} ms, {GOAL} for the others. Above them: {}.",
+            GOAL_PICTURES.map(|(side, (alone, trail))| format!("{alone} and {trail} at {side} by {side}")).join(", "),
             GOAL_KEYS.map(|(side, goal)| format!("{goal} at {side} by {side}")).join(", "),
             SPLIT_MOST / 1e6,
             self.above.len()
