@@ -115,7 +115,7 @@ static inline const char *tk_refusal_text(uint32_t refusal) {
         case TK_REFUSED_PAIR: return "the mode does not accept this pair of format and size, or it has no linear reading";
         case TK_REFUSED_PICTURE: return "the buffer of the picture or of its file is too short";
         case TK_REFUSED_TRAIL: return "the trail's buffer is too short";
-        case TK_REFUSED_TORN: return "a record is cut short";
+        case TK_REFUSED_TORN: return "a record has fewer than 48 bytes";
         case TK_REFUSED_KIND: return "the kind of the record is above 3";
         case TK_REFUSED_BEYOND: return "the record's source goes beyond the companion file";
         case TK_REFUSED_ZERO_SIDE: return "the picture has a zero side, which a file can't have";

@@ -15,7 +15,7 @@ use crate::{Bank, Refusal, Tile, BANK_BYTES, TILE_BYTES};
 /// let Record { tile, bank } = records.next().expect("a record")?;
 /// assert_eq!((tile.fmt, tile.width, tile.height), (4, 2, 1));
 /// assert_eq!(bank.key(&tile, 0)?.bytes[..3], [8, 9, 0]);
-/// assert_eq!(records.next(), Some(Err(Refusal::Torn)));
+/// assert_eq!(records.next(), Some(Err(Refusal::Length)));
 /// # Ok::<(), Refusal>(())
 /// ```
 #[derive(Clone, Debug, PartialEq, Eq)]
@@ -40,14 +40,11 @@ impl From<&[u8; Record::BYTES]> for Record {
     }
 }
 
-/// The record of its bytes. Fewer are refused by [`Refusal::Torn`], and more by [`Refusal::Length`].
+/// The record of its bytes. A slice of another length is refused by [`Refusal::Length`].
 impl TryFrom<&[u8]> for Record {
     type Error = Refusal;
 
     fn try_from(bytes: &[u8]) -> Result<Self, Refusal> {
-        let short = bytes.len() < Self::BYTES;
-        let whole: &[u8; Self::BYTES] =
-            bytes.try_into().map_err(|_| if short { Refusal::Torn } else { Refusal::Length })?;
-        Ok(Self::from(whole))
+        <&[u8; Self::BYTES]>::try_from(bytes).map(Self::from).map_err(|_| Refusal::Length)
     }
 }

@@ -6,7 +6,7 @@ use std::fmt;
 #[non_exhaustive]
 pub enum Refusal {
     /// 1: a bank, key, written record or map, or the reasons, have a wrong length. The calls of [`crate::slices`] can get it, and a
-    /// [`crate::Bank`] of a slice; other calls on this crate's own types can't.
+    /// [`crate::Bank`] or [`crate::Record`] of a slice; other calls on this crate's own types can't.
     Length,
     /// 2: a field of the tile is out of range, or a side of a picture is above [`crate::SIDE_MOST`].
     Tile,
@@ -20,7 +20,7 @@ pub enum Refusal {
     Picture,
     /// 7: the trail's buffer is shorter than 2 bytes a read.
     Trail,
-    /// 8: a record is cut short: it has fewer than the 48 bytes of a replay's, or than those of a [`crate::Record`].
+    /// 8: a replay's record has fewer than 48 bytes.
     Torn,
     /// 10: the kind of a capture's record is above 3.
     Kind,
@@ -120,7 +120,7 @@ impl Refusal {
             Self::Pair => "the mode does not accept this pair of format and size, or it has no linear reading",
             Self::Picture => "the buffer of the picture or of its file is too short",
             Self::Trail => "the trail's buffer is too short",
-            Self::Torn => "a record is cut short",
+            Self::Torn => "a record has fewer than 48 bytes",
             Self::Kind => "the kind of the record is above 3",
             Self::Beyond => "the record's source goes beyond the companion file",
             Self::ZeroSide => "the picture has a zero side, which a file can't have",
