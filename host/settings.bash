@@ -35,10 +35,17 @@ need_shared() {
     fi
 }
 
+# version: that of the header, MAJOR.MINOR.PATCH.
+version() {
+    sed -n 's/^#define TK_VERSION_\(MAJOR\|MINOR\|PATCH\) //p' "$root/include/tulonkasa.h" | paste -sd .
+}
+
 # make_shared ARCHIVE SHARED: links the whole archive as a shared library. Its code does not depend on where it is loaded, and of its
-# names only the exports are global, so that the library shows those and nothing else.
+# names only the exports are global, so that the library shows those and nothing else. Programs look for it by the major version.
 make_shared() {
-    gcc -shared -o "$2" -Wl,-soname,"$(basename "$2").1" -Wl,-z,defs,-z,now -Wl,--whole-archive "$1" -Wl,--no-whole-archive
+    local name
+    name=$(basename "$2").$(version | cut -d . -f 1)
+    gcc -shared -o "$2" -Wl,-soname,"$name" -Wl,-z,defs,-z,now -Wl,--whole-archive "$1" -Wl,--no-whole-archive
 }
 
 # has_original: whether the original's source is there.
