@@ -19,6 +19,14 @@ CARGO_TARGET_DIR=${CARGO_TARGET_DIR:-$root/target/cargo}
 CARGO_NET_OFFLINE=true
 export TULONKASA_PRODUCT TULONKASA_ARCHIVE TULONKASA_SHARED TULONKASA_ORACLE_SOURCE CARGO_TARGET_DIR CARGO_NET_OFFLINE
 
+# need_rt NAME: ends the script, which people know by that name, where the toolchain is missing.
+need_rt() {
+    if ! command -v rt >/dev/null 2>&1; then
+        echo "$1: the command rt of the Rattle toolchain is not on the PATH; README.md names the kit to install." >&2
+        exit 2
+    fi
+}
+
 # need_archive: ends the script where the archive is missing.
 need_archive() {
     if [ ! -f "$TULONKASA_ARCHIVE" ]; then
