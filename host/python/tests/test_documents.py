@@ -8,7 +8,8 @@ import unittest
 
 import tulonkasa
 
-MODULES = [tulonkasa, *(importlib.import_module(f"tulonkasa.{found.name}") for found in pkgutil.iter_modules(tulonkasa.__path__))]
+NAMES = [found.name for found in pkgutil.iter_modules(tulonkasa.__path__) if found.name != "__main__"]
+MODULES = [tulonkasa, *(importlib.import_module(f"tulonkasa.{name}") for name in NAMES)]
 
 
 def own_classes(module):

@@ -99,7 +99,7 @@ class Shapes(unittest.TestCase):
     def test_as_numpy_takes_it(self):
         picture = noise(3, 2)
         told = picture.__array_interface__
-        self.assertEqual({name: told[name] for name in ("version", "shape", "typestr")}, {"version": 3, "shape": (2, 3, 4), "typestr": "|u1"})
+        self.assertEqual((told["version"], told["shape"], told["typestr"]), (3, (2, 3, 4), "|u1"))
         self.assertIs(told["data"], picture.bytes)
         self.assertNotIn("strides", told)
         self.assertEqual(Picture(0, 2, b"").__array_interface__["shape"], (2, 0, 4))
