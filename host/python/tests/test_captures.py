@@ -1,5 +1,6 @@
 """Captures out of files, pipes and standard input, and odd ones; the lines of the proved lister."""
 
+import gc
 import io
 import os
 import subprocess
@@ -7,6 +8,7 @@ import sys
 import tempfile
 import threading
 import unittest
+import warnings
 from pathlib import Path
 
 from tests.support import CAPTURE, INTENSITY, ROOT, listed
@@ -72,6 +74,14 @@ class Sources(unittest.TestCase):
                 self.assertFalse(file.closed)
             with open(path, "rb", buffering=0) as file:
                 self.assertEqual(taken(file), self.due)
+
+    def test_a_path_is_closed_again(self):
+        with warnings.catch_warnings(record=True) as said:
+            warnings.simplefilter("always", ResourceWarning)
+            self.assertEqual(len(list(Capture(CAPTURE))), CAPTURE.stat().st_size // CAPTURE_BYTES)
+            next(iter(Capture(CAPTURE)))
+            gc.collect()
+        self.assertEqual([str(one.message) for one in said], [])
 
     def test_bytes(self):
         for source in (RECORD * 5, bytearray(RECORD * 5), memoryview(RECORD * 5), io.BytesIO(RECORD * 5)):

@@ -54,6 +54,19 @@ class Splits(unittest.TestCase):
         self.assertEqual(split(entries).sides, sides_by_hand(entries))
         self.assertEqual(refusal_of(split, [*entries, entries[0]]), 16)
 
+    def test_more_than_are_taken_in_batches(self):
+        """As docs/SCALE.md says: one entry of each group, in batches of a multiple of five, gives the sides of one long split."""
+        bodies = [Entry((number % 10000).to_bytes(4117, "big")) for number in range(12000)]
+        groups = list(dict.fromkeys(bodies))
+        self.assertEqual(len(groups), 10000)
+
+        def by_batches(length):
+            batches = [groups[place : place + length] for place in range(0, len(groups), length)]
+            return [side for batch in batches for side in split(batch).sides]
+
+        self.assertEqual(by_batches(4095), sides_by_hand(groups))
+        self.assertNotEqual(by_batches(4096), sides_by_hand(groups))
+
 
 class Entries(unittest.TestCase):
     def test_parts(self):

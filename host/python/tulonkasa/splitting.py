@@ -4,6 +4,7 @@ from __future__ import annotations
 
 import builtins
 import enum
+import itertools
 from dataclasses import dataclass
 from typing import TYPE_CHECKING, Iterable, Iterator
 
@@ -131,14 +132,9 @@ def split(entries: Iterable[Entry]) -> Split:
     >>> made.tuning, made.held_out, str(made.sides[5]), str(made.sides[7])
     (6, 2, 'held out', 'held out')
     """
-    data = bytearray()
-    count = 0
-    for entry in entries:
-        count += 1
-        if count <= ENTRIES_MOST:
-            data += entry.bytes
-    sides = bytearray(min(count, ENTRIES_MOST))
-    answer = exports.tk_split(count, data, sides)
+    taken = [entry.bytes for entry in itertools.islice(entries, ENTRIES_MOST + 1)]  # with one too many it is refused
+    sides = bytearray(len(taken))
+    answer = exports.tk_split(len(taken), b"".join(taken), sides)
     refuse(answer.refusal)
     return Split([Side(side) for side in sides], answer.tuning, answer.held_out)
 
