@@ -1,5 +1,5 @@
 //! Banks, records and entries of the bytes that a file or a C program has; a bank with its written record and reasons, taken apart and put
-//! together; and the picture that a tile calls for.
+//! together; a bank that threads share; and the picture that a tile calls for.
 use tulonkasa::{
     Bank, Entry, Picture, Record, Refusal, Tile, Written, BANK_BYTES, ENTRY_BYTES, REASON_BYTES, WRITTEN_BYTES,
 };
@@ -89,6 +89,18 @@ fn each_part_matters() {
     assert_eq!(with(|_, _, _, reasons| reasons[4095] = 8).reasons()[4095], 8);
     let mut spent = with(|_, _, last, _| *last = 65535);
     assert_eq!(spent.load_block(&[], &TILE, 2, 0, 1), Err(Refusal::Number));
+}
+
+#[test]
+fn threads_share_a_bank_that_none_writes() {
+    let bank = loaded();
+    let lookup = Tile { masks: 3, ..TILE };
+    let made = || [TILE, lookup].map(|tile| (bank.picture_called_for(&tile, 0), bank.key(&tile, 0), bank.rejection(&tile)));
+    let alone = made();
+    std::thread::scope(|scope| {
+        let threads = [(); 8].map(|()| scope.spawn(|| (0..50).all(|_| made() == alone)));
+        assert!(threads.into_iter().all(|thread| thread.join().unwrap()));
+    });
 }
 
 #[test]
