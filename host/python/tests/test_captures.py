@@ -136,7 +136,7 @@ class Records(unittest.TestCase):
         self.assertEqual((record.number, record.tile, record.lane), (0, INTENSITY, 0))
         self.assertEqual(record.bank, Bank(RECORD[16:]))
         self.assertEqual(record.key(), record.bank.key(INTENSITY))
-        self.assertEqual(record.picture(), record.bank.sample(INTENSITY))
+        self.assertEqual(record.sample(), record.bank.sample(INTENSITY))
 
     def test_any_tile_is_given(self):
         (record,) = Capture(b"\xff" * 16 + bytes(BANK_BYTES))
