@@ -172,6 +172,17 @@ class Odd(unittest.TestCase):
         with self.assertRaises(IsADirectoryError):
             list(Capture(ROOT))
 
+    def test_a_pipe_that_does_not_wait(self):
+        reading, writing = os.pipe()
+        self.addCleanup(os.close, writing)
+        os.set_blocking(reading, False)
+        os.write(writing, RECORD + RECORD[:9])
+        with open(reading, "rb", buffering=0) as file:
+            records = iter(Capture(file))
+            self.assertEqual(next(records).number, 0)
+            with self.assertRaises(BlockingIOError):
+                next(records)
+
     def test_what_is_no_source(self):
         with self.assertRaisesRegex(TypeError, "^the file gives text; open it in binary mode$"):
             list(Capture(io.StringIO("text")))
