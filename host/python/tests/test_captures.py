@@ -136,7 +136,7 @@ class Records(unittest.TestCase):
         self.assertEqual((record.number, record.tile, record.lane), (0, INTENSITY, 0))
         self.assertEqual(record.bank, Bank(RECORD[16:]))
         self.assertEqual(record.key(), record.bank.key(INTENSITY))
-        self.assertEqual(record.picture(), record.bank.sample(INTENSITY))
+        self.assertEqual(record.sample(), record.bank.sample(INTENSITY))
 
     def test_any_tile_is_given(self):
         (record,) = Capture(b"\xff" * 16 + bytes(BANK_BYTES))
@@ -171,6 +171,17 @@ class Odd(unittest.TestCase):
             list(Capture("/nothing/here.bin"))
         with self.assertRaises(IsADirectoryError):
             list(Capture(ROOT))
+
+    def test_a_pipe_that_does_not_wait(self):
+        reading, writing = os.pipe()
+        self.addCleanup(os.close, writing)
+        os.set_blocking(reading, False)
+        os.write(writing, RECORD + RECORD[:9])
+        with open(reading, "rb", buffering=0) as file:
+            records = iter(Capture(file))
+            self.assertEqual(next(records).number, 0)
+            with self.assertRaises(BlockingIOError):
+                next(records)
 
     def test_what_is_no_source(self):
         with self.assertRaisesRegex(TypeError, "^the file gives text; open it in binary mode$"):

@@ -76,6 +76,10 @@ class Entries(unittest.TestCase):
         self.assertEqual(one, Entry(bytes(one)))
         self.assertNotEqual(one, entry(0x01020305, 9))
         self.assertEqual(one.body, entry(7, 9, 5).body)
+        data = bytearray(bytes(one))
+        again = Entry(data)
+        data[0] = 0
+        self.assertEqual({one, again}, {one})
 
     def test_other_lengths(self):
         with self.assertRaisesRegex(ValueError, "^an entry has 4,117 bytes, and these are 4,116$"):

@@ -117,8 +117,8 @@ class Table(unittest.TestCase):
         (self.room / "a.bin").write_bytes(record(1, 0) + record(2, 0) + record(1, 9))
         self.meet("a.bin")
         (query,) = [line.strip() for line in SCALE_PAGE.splitlines() if line.startswith("    SELECT ")]
-        found = TABLE.opened(self.room / "captures.db").execute(query).fetchall()
-        self.assertEqual(found, [(0, 2, "a.bin:0,a.bin:2")])
+        with TABLE.opened(self.room / "captures.db") as table:
+            self.assertEqual(table.execute(query).fetchall(), [(0, 2, "a.bin:0,a.bin:2")])
 
     def test_refused_records_take_no_part(self):
         wide = Tile(fmt=4, siz=1, width=4097, height=1)
@@ -130,7 +130,7 @@ class Table(unittest.TestCase):
     def test_the_body_decides_and_not_the_digest(self):
         (self.room / "a.bin").write_bytes(record(1, 0) + record(1, 5))
         (one, _) = Capture(self.room / "a.bin")
-        with TABLE.opened(self.room / "captures.db") as table:
+        with TABLE.opened(self.room / "captures.db") as table, table:
             table.execute("INSERT INTO bodies VALUES (0, ?, ?)", (one.key().digest, TABLE.packed(bytes(4113))))
         made = self.meet("a.bin")
         self.assertEqual([group for _, group, _ in made.values()], [1, 1])
