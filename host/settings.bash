@@ -2,6 +2,7 @@
 # gate (.ci/run, .ci/host) tests the archive that it makes itself.
 #   TULONKASA_PRODUCT        the archive, x86-64 code       (target/staticlib/libtulonkasa.a)
 #   TULONKASA_ARCHIVE        the archive for this processor (the same; see host/archive for another processor's)
+#   TULONKASA_SHARED         the shared library made of it  (beside it, libtulonkasa.so)
 #   TULONKASA_ORACLE_SOURCE  the original Rust's directory  (shared/docs/src beside the repository)
 root=$(cd "$(dirname "${BASH_SOURCE[0]}")/.." && pwd)
 TULONKASA_PRODUCT=$(realpath -m "${TULONKASA_PRODUCT:-$root/target/staticlib/libtulonkasa.a}")
@@ -12,10 +13,19 @@ else
     TULONKASA_ARCHIVE=${TULONKASA_ARCHIVE:-$root/target/staticlib/$machine/libtulonkasa.a}
 fi
 TULONKASA_ARCHIVE=$(realpath -m "$TULONKASA_ARCHIVE")
+TULONKASA_SHARED=$(realpath -m "${TULONKASA_SHARED:-${TULONKASA_ARCHIVE%.a}.so}")
 TULONKASA_ORACLE_SOURCE=$(realpath -m "${TULONKASA_ORACLE_SOURCE:-$root/../shared/docs/src}")
 CARGO_TARGET_DIR=${CARGO_TARGET_DIR:-$root/target/cargo}
 CARGO_NET_OFFLINE=true
-export TULONKASA_PRODUCT TULONKASA_ARCHIVE TULONKASA_ORACLE_SOURCE CARGO_TARGET_DIR CARGO_NET_OFFLINE
+export TULONKASA_PRODUCT TULONKASA_ARCHIVE TULONKASA_SHARED TULONKASA_ORACLE_SOURCE CARGO_TARGET_DIR CARGO_NET_OFFLINE
+
+# need_rt NAME: ends the script, which people know by that name, where the toolchain is missing.
+need_rt() {
+    if ! command -v rt >/dev/null 2>&1; then
+        echo "$1: the command rt of the Rattle toolchain is not on the PATH; README.md names the kit to install." >&2
+        exit 2
+    fi
+}
 
 # need_archive: ends the script where the archive is missing.
 need_archive() {
@@ -23,6 +33,27 @@ need_archive() {
         echo "$TULONKASA_ARCHIVE is missing: make it with host/archive, or name it by TULONKASA_ARCHIVE." >&2
         exit 2
     fi
+}
+
+# need_shared: ends the script where the shared library is missing.
+need_shared() {
+    if [ ! -f "$TULONKASA_SHARED" ]; then
+        echo "$TULONKASA_SHARED is missing: make it with host/archive, or name it by TULONKASA_SHARED." >&2
+        exit 2
+    fi
+}
+
+# version: that of the header, MAJOR.MINOR.PATCH.
+version() {
+    sed -n 's/^#define TK_VERSION_\(MAJOR\|MINOR\|PATCH\) //p' "$root/include/tulonkasa.h" | paste -sd .
+}
+
+# make_shared ARCHIVE SHARED: links the whole archive as a shared library. Its code does not depend on where it is loaded, and of its
+# names only the exports are global, so that the library shows those and nothing else. Programs look for it by the major version.
+make_shared() {
+    local name
+    name=$(basename "$2").$(version | cut -d . -f 1)
+    gcc -shared -o "$2" -Wl,-soname,"$name" -Wl,-z,defs,-z,now -Wl,--whole-archive "$1" -Wl,--no-whole-archive
 }
 
 # has_original: whether the original's source is there.

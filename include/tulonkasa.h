@@ -10,7 +10,8 @@
  * Rules that hold for every call:
  *
  * - A buffer is a pointer to bytes and a length. The library allocates nothing, keeps no pointer after it returns, and has
- *   no state of its own, so calls on different buffers may run at the same time.
+ *   no state of its own. So threads may call it at the same time, each with buffers of its own. A buffer that is only read, a
+ *   `const uint8_t *` below, may be shared: any number of threads may make pictures and keys of one bank that none of them writes.
  * - Buffers of one call must not overlap. A buffer of length 0 may have a null pointer.
  * - Every number is taken. One that is out of range, or a buffer of a wrong length, is refused with a number (TK_REFUSED_..
  *   below). Each call tests only what it has a use for, in this order: 1, 8, 10, 2, 3, 4, 11, 5, 12, 6, 7, 19, 18. Two
@@ -22,7 +23,8 @@
  * The functions named tk_.._of, at the end, take a tk_tile and buffers of the right length, and are what a program wants
  * most of the time.
  *
- * Link with libtulonkasa.a (x86-64). Works as C99 and as C++. */
+ * Link with libtulonkasa.a or libtulonkasa.so (x86-64). Where host/install has put them, `pkg-config --cflags --libs tulonkasa` says
+ * how. Works as C99 and as C++. */
 
 #ifndef TULONKASA_H
 #define TULONKASA_H
@@ -33,6 +35,23 @@
 #ifdef __cplusplus
 extern "C" {
 #endif
+
+/* ---- Version -------------------------------------------------------------------------------------------------------- */
+
+/* The version of this header. The first number rises where a program may have to change: an entry or a name is gone or is called
+ * otherwise, or a call answers otherwise on numbers and buffers that it took before, a key among them. The second rises where there is
+ * something new: an entry, a name, or numbers that are taken and were refused. The third rises where no answer changes. CHANGELOG.md
+ * says what changed. */
+#define TK_VERSION_MAJOR 1
+#define TK_VERSION_MINOR 0
+#define TK_VERSION_PATCH 0
+
+/* The three as one number, for `#if TK_VERSION >= 1002000`. */
+#define TK_VERSION (1000000 * TK_VERSION_MAJOR + 1000 * TK_VERSION_MINOR + TK_VERSION_PATCH)
+
+/* The version of the library that the program runs with, as one number like TK_VERSION. It is TK_VERSION where header and library are
+ * of one release. A later library with the same first number serves, too. */
+uint32_t tk_version(void);
 
 /* ---- Sizes ---------------------------------------------------------------------------------------------------------- */
 
@@ -51,6 +70,11 @@ extern "C" {
 #define TK_RECORD_BYTES 48     /* a record of a capture */
 #define TK_ENTRY_BYTES 4117    /* an entry of a split: 4 and 16 bytes, the lane's byte, and a key */
 #define TK_ENTRIES_MOST 4096   /* a split has at most this many entries */
+
+/* The bytes of a picture, and of a trail that is long enough for any picture of this size. A lookup is 4,096 by 4. With sides up to
+ * TK_SIDE_MOST both fit a size_t. */
+#define TK_PICTURE_BYTES(width, height) ((size_t)4 * (width) * (height))
+#define TK_TRAIL_BYTES(width, height) ((size_t)2 * TK_TEXEL_READS_MOST * (width) * (height))
 
 /* The header that tk_write_pam writes has at most this many bytes: 63, and the digits of width and height, at most ten each. */
 #define TK_PAM_HEADER_MOST (63 + 2 * 10)
@@ -79,6 +103,32 @@ enum {
     TK_REFUSED_NUMBER = 18,      /* no number is left for a load: the last one passed is above 65,534 */
     TK_REFUSED_REASON = 19       /* the reason of a rejected load is 0, or above TK_REASON_MOST */
 };
+
+/* What a refusal's number means, in words, for a message to people. The words may get better; programs go by the number. */
+static inline const char *tk_refusal_text(uint32_t refusal) {
+    switch (refusal) {
+        case TK_DONE: return "not refused";
+        case TK_REFUSED_LENGTH: return "a bank, key, written record or map, or the reasons, have a wrong length";
+        case TK_REFUSED_TILE: return "a field of the tile is out of range, or a side of the picture";
+        case TK_REFUSED_MODE_OR_LANE: return "mode or lane is above 3";
+        case TK_REFUSED_LOAD: return "a number of the load or decoding, or its source's length, is out of range";
+        case TK_REFUSED_PAIR: return "the mode does not accept this pair of format and size, or it has no linear reading";
+        case TK_REFUSED_PICTURE: return "the buffer of the picture or of its file is too short";
+        case TK_REFUSED_TRAIL: return "the trail's buffer is too short";
+        case TK_REFUSED_TORN: return "a record has fewer than 48 bytes";
+        case TK_REFUSED_KIND: return "the kind of the record is above 3";
+        case TK_REFUSED_BEYOND: return "the record's source goes beyond the companion file";
+        case TK_REFUSED_ZERO_SIDE: return "the picture has a zero side, which a file can't have";
+        case TK_REFUSED_HEADER: return "the file's header breaks the PAM description";
+        case TK_REFUSED_TUPLES: return "the file's depth is not 4, its maximum not 255, or its tuple type not RGB_ALPHA";
+        case TK_REFUSED_TEXELS: return "the file has fewer texel bytes than its header calls for";
+        case TK_REFUSED_COUNT: return "there are more than 4,096 entries";
+        case TK_REFUSED_ENTRIES: return "the entries are not 4,117 bytes each, or the sides not one byte each";
+        case TK_REFUSED_NUMBER: return "there were 65,535 loads, and no number is left for another";
+        case TK_REFUSED_REASON: return "the reason of a rejected load is not from 1 to 255";
+        default: return "a refusal without a name";
+    }
+}
 
 /* ---- What is wrong with an offered key ------------------------------------------------------------------------------ */
 
@@ -119,7 +169,9 @@ typedef struct tk_replay_answer {
     uint32_t number;
 } tk_replay_answer;
 
-/* flag: 1 if the tile calls for a lookup, 0 for a plain picture. width, height: the texels to allocate for it. */
+/* flag: 1 if the tile calls for a lookup, 0 for a plain picture. width, height: the texels to allocate for it, 4,096 by 4 for a lookup.
+ * Of a plain picture they are the tile's, but at least 1 each: a tile of no texels still has a texture to allocate, though
+ * tk_sample_tile makes no texel of it. */
 typedef struct tk_sampling_answer {
     uint32_t refusal;
     uint32_t flag;
@@ -282,7 +334,8 @@ tk_reason_answer tk_rejection(TK_TILE_PARAMETERS, const uint8_t *reasons, size_t
 
 /* ---- Which picture -------------------------------------------------------------------------------------------------- */
 
-/* Whether the tile calls for a plain picture or a lookup, and the texels to allocate. Refuses 2, 3. */
+/* Whether the tile calls for a plain picture or a lookup, and the texels to allocate, as TK_PICTURE_BYTES(width, height) takes them.
+ * Refuses 2, 3. */
 tk_sampling_answer tk_sampling(TK_TILE_PARAMETERS);
 
 /* ---- Pictures ------------------------------------------------------------------------------------------------------- */

@@ -12,7 +12,7 @@
 
 /* Says what was refused, and gives back whether anything was. */
 static int refused(const char *what, uint32_t refusal) {
-    if (refusal != TK_DONE) fprintf(stderr, "%s: refusal %" PRIu32 "\n", what, refusal);
+    if (refusal != TK_DONE) fprintf(stderr, "%s: refusal %" PRIu32 ": %s\n", what, refusal, tk_refusal_text(refusal));
     return refusal != TK_DONE;
 }
 
@@ -30,7 +30,7 @@ static void print_check(const char *offer, tk_check_answer checked) {
 
 int main(void) {
     static uint8_t bank[TK_BANK_BYTES], written[TK_WRITTEN_BYTES], reasons[TK_REASON_BYTES];
-    static uint8_t key[TK_BANK_BYTES], picture[4 * 4 * 2], straight[sizeof picture];
+    static uint8_t key[TK_BANK_BYTES], picture[TK_PICTURE_BYTES(4, 2)], straight[sizeof picture];
     static uint8_t file[TK_PAM_HEADER_MOST + sizeof picture], again[sizeof file];
 
     /* Two rows of four texels of 16 bits: red, green, magenta and white, then the same backwards. */
@@ -104,7 +104,7 @@ int main(void) {
     print_load(loaded);
 
     /* Which load the bytes came from: a trail has two bytes for each read, high byte first. */
-    static uint8_t trail[2 * TK_TEXEL_READS_MOST * 4 * 2];
+    static uint8_t trail[TK_TRAIL_BYTES(4, 2)];
     made = tk_sample_tile_observed_of(bank, &tile, 0, picture, sizeof picture, trail, sizeof trail);
     if (refused("picture", made.refusal)) return 1;
     printf("written by:");
@@ -134,7 +134,7 @@ int main(void) {
     if (refused("palette", loaded.refusal)) return 1;
     print_load(loaded);
     loaded = tk_load_tlut_hardware_of(bank, written, reasons, source, sizeof source, &palette, 2, 1, 2, 8, loaded.number);
-    printf("two rows by the hardware call: refusal %" PRIu32 "\n", loaded.refusal);
+    printf("two rows by the hardware call: %s\n", tk_refusal_text(loaded.refusal));
     loaded = tk_load_tlut_rows_of(bank, written, reasons, source, sizeof source, &palette, 2, 1, 2, 8, loaded.number);
     if (refused("palette", loaded.refusal)) return 1;
     print_load(loaded);

@@ -8,7 +8,7 @@
 
 static uint8_t bank[TK_BANK_BYTES], written[TK_WRITTEN_BYTES], reasons[TK_REASON_BYTES], map[TK_MAP_BYTES];
 static uint8_t long_buffer[TK_WRITTEN_BYTES + 1], lanes[TK_LANE_MAP_BYTES], key[TK_BANK_BYTES];
-static uint8_t picture[4 * TK_LOOKUP_TEXELS], trail[2 * TK_TEXEL_READS_MOST * TK_LOOKUP_TEXELS];
+static uint8_t picture[TK_PICTURE_BYTES(4096, 4)], trail[TK_TRAIL_BYTES(4096, 4)];
 static uint8_t source[64], part[TK_SOURCE_MOST + 1], file[TK_PAM_HEADER_MOST + 4 * TK_SIDE_MOST];
 static uint8_t entries[(TK_ENTRIES_MOST + 1) * TK_ENTRY_BYTES], sides[TK_ENTRIES_MOST + 1];
 static int wrong;
@@ -682,6 +682,43 @@ static void check_split_answers(void) {
     CHECK(answer.refusal == 17 && answer.tuning == 0 && answer.held_out == 0 && memcmp(sides, front, sizeof front) == 0);
 }
 
+/* The library is of the header's version, and the one number is made of the three. */
+static void check_version(void) {
+    CHECK(tk_version() == TK_VERSION);
+    CHECK(TK_VERSION / 1000000 == TK_VERSION_MAJOR);
+    CHECK(TK_VERSION / 1000 % 1000 == TK_VERSION_MINOR);
+    CHECK(TK_VERSION % 1000 == TK_VERSION_PATCH);
+}
+
+/* Every number that a call can answer has words of its own; 9 and the numbers past the last have none. */
+static void check_refusal_texts(void) {
+    const char *unnamed = tk_refusal_text(UINT32_MAX);
+    for (uint32_t n = 0; n <= TK_REFUSED_REASON; n++) {
+        for (uint32_t m = 0; m < n; m++) CHECK(strcmp(tk_refusal_text(n), tk_refusal_text(m)) != 0);
+        CHECK((strcmp(tk_refusal_text(n), unnamed) == 0) == (n == 9));
+    }
+    CHECK(strcmp(tk_refusal_text(TK_REFUSED_REASON + 1), unnamed) == 0);
+}
+
+/* The largest picture with its trail: 64 and 128 MiB. The macros take expressions, and multiply as size_t. */
+static void check_sizes(void) {
+    CHECK(TK_PICTURE_BYTES(TK_SIDE_MOST, TK_SIDE_MOST) == 64 << 20);
+    CHECK(TK_TRAIL_BYTES(TK_SIDE_MOST, TK_SIDE_MOST) == 128 << 20);
+    CHECK(TK_PICTURE_BYTES(1 + 2, 4 + 1) == 60);
+    CHECK(TK_TRAIL_BYTES(1 + 2, 4 + 1) == 120);
+    CHECK(TK_PICTURE_BYTES((uint32_t)65536, (uint32_t)65536) == (size_t)1 << 34);
+    CHECK(TK_PICTURE_BYTES(4096, 4) == 4 * TK_LOOKUP_TEXELS);
+}
+
+/* What is allocated: the tile's sides, at least 1, or 4,096 by 4 for a lookup. */
+static void check_extents(void) {
+    tk_tile tile = plain_tile(), empty = with(with(tile, 10, 0), 11, 0), lookup = with(with(tile, 4, 0), 6, 5);
+    tk_sampling_answer plain = tk_sampling_of(&tile), none = tk_sampling_of(&empty), whole_bank = tk_sampling_of(&lookup);
+    CHECK(plain.flag == 0 && plain.width == 3 && plain.height == 2);
+    CHECK(none.flag == 0 && none.width == 1 && none.height == 1);
+    CHECK(whole_bank.flag == 1 && whole_bank.width == 4096 && whole_bank.height == 4);
+}
+
 /* Stores, none of a byte of the source. */
 static int all_made_up(tk_load_answer answer) { return answer.count > 0 && answer.made_up == answer.count; }
 
@@ -739,6 +776,10 @@ int main(void) {
     check_replay();
     check_split_lengths();
     check_split_answers();
+    check_version();
+    check_refusal_texts();
+    check_sizes();
+    check_extents();
     check_null();
     return wrong;
 }

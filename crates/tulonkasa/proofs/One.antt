@@ -2,6 +2,7 @@
 use mathlib.Core.Path.{_≡_}
 use mathlib.Core.List.{[], _∷_}
 use denote.Ref.{now}
+use Rattle.rules.proofs.Refused.{determined}
 use Rattle.rdp.proofs.Determined.{answered-determined, load-determined, size-determined, refusal-determined, sampling-determined}
 use Rattle.rdp.proofs.Determined.{check-determined, reason-determined, replay-determined, split-determined, yes-determined}
 use Rattle.tulonkasa.proofs.files.tk_write_pam.Reads as tk-write-pam
@@ -28,6 +29,7 @@ use Rattle.tulonkasa.proofs.rejects.tk_reject_tlut_rows.Reads as tk-rej
 use Rattle.tulonkasa.proofs.replay.tk_replay_record.Reads as tk-replay-record
 use Rattle.tulonkasa.proofs.sampling.tk_sampling.Reads as tk-sampling
 use Rattle.tulonkasa.proofs.splits.tk_split.Reads as tk-split
+use Rattle.tulonkasa.proofs.version.tk_version.Reads as tk-version
 
 pub tk-write-pam-one : (w : _) (a : _) (r s : _) (e f : _) → tk-write-pam.Post w a r e → tk-write-pam.Post w a s f
     → (r ≡ s) × (now (e .1 .1 .1 .0) ∷ [] ≡ now (f .1 .1 .1 .0) ∷ [])
@@ -129,3 +131,6 @@ tk-replay-record-one w a r s e f p q = replay-determined _ r s _ _ p q
 pub tk-split-one : (w : _) (a : _) (r s : _) (e f : _) → tk-split.Post w a r e → tk-split.Post w a s f
     → (r ≡ s) × (now (e .1 .1 .0) ∷ [] ≡ now (f .1 .1 .0) ∷ [])
 tk-split-one w a r s e f p q = split-determined _ r s _ _ p q
+
+pub tk-version-one : (w : _) (a : _) (r s : _) (e f : _) → tk-version.Post w a r e → tk-version.Post w a s f → r ≡ s
+tk-version-one w a r s e f p q = determined p q

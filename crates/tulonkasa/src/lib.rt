@@ -10,3 +10,4 @@ pub mod replay;
 pub mod sampling;
 pub mod splits;
 mod tile;
+pub mod version;

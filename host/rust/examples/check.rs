@@ -38,7 +38,7 @@ fn check(entries: &Path, banks: &Path) -> Result<(), Failure> {
         return Err(Failure::Use);
     }
     let (mut entry_input, mut bank_input) = (open(entries)?, open(banks)?);
-    let (mut text, mut totals) = (String::from("entry\tcapture\tkey\n"), Totals::default());
+    let (mut lines, mut totals) = (vec![String::from("entry\tcapture\tkey\n")], Totals::default());
     for number in 0.. {
         let entry = next_bytes::<ENTRY_BYTES>(&mut entry_input, entries, "entry", number)?.map(Entry::from);
         let bank = next_bytes::<BANK_BYTES>(&mut bank_input, banks, "bank", number)?.map(Bank::from);
@@ -50,11 +50,11 @@ fn check(entries: &Path, banks: &Path) -> Result<(), Failure> {
         };
         let checked = bank.check_key(&entry.tile(), entry.lane(), entry.key());
         totals.add(checked);
-        text += &format!("{number}\t{}\t{}\n", entry.capture(), words(checked));
+        lines.push(format!("{number}\t{}\t{}\n", entry.capture(), words(checked)));
     }
     let Totals { right, wrong, refused } = totals;
-    text += &format!("all\t\t{right} right, {wrong} wrong, {refused} refused\n");
-    write(STANDARD.as_ref(), text.as_bytes())
+    lines.push(format!("all\t\t{right} right, {wrong} wrong, {refused} refused\n"));
+    write(STANDARD.as_ref(), lines.concat().as_bytes())
 }
 
 impl Totals {

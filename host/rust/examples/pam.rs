@@ -2,13 +2,13 @@
 mod captures;
 mod files;
 
-use captures::{next_record, RECORD_BYTES};
+use captures::next_record;
 use files::{is_standard, open, said, write, Failure, STANDARD};
 use std::ffi::OsStr;
 use std::io::{self, Read};
 use std::path::Path;
 use std::process::ExitCode;
-use tulonkasa::{Bank, Picture, Tile};
+use tulonkasa::{Picture, Record};
 
 const USE: &str = "\
 use: pam out CAPTURE NUMBER FILE
@@ -28,7 +28,7 @@ fn main() -> ExitCode {
 /// A record's picture, as a file.
 fn out(capture: &Path, number: &OsStr, file: &Path) -> Result<(), Failure> {
     let number = number.to_str().and_then(|number| number.parse().ok()).ok_or(Failure::Use)?;
-    let (tile, bank) = read_record(capture, number)?;
+    let Record { tile, bank } = read_record(capture, number)?;
     let pam = bank
         .picture(&tile, 0)
         .and_then(|picture| picture.to_pam())
@@ -51,9 +51,9 @@ fn back(file: &Path, texels: &Path) -> Result<(), Failure> {
 }
 
 /// A record of a capture, which may be a pipe: those before it are read too.
-fn read_record(capture: &Path, number: u64) -> Result<(Tile, Bank), Failure> {
+fn read_record(capture: &Path, number: u64) -> Result<Record, Failure> {
     let mut input = open(capture)?;
-    let before = number.saturating_mul(RECORD_BYTES as u64);
+    let before = number.saturating_mul(Record::BYTES as u64);
     let skipped = io::copy(&mut input.by_ref().take(before), &mut io::sink()).map_err(|error| said(capture, error))?;
     let record = if skipped == before { next_record(&mut input, capture, number)? } else { None };
     record.ok_or_else(|| said(capture, format_args!("there is no record {number}")))

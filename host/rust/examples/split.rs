@@ -7,7 +7,7 @@ use files::{open, said, write, Failure, STANDARD};
 use std::collections::HashMap;
 use std::path::Path;
 use std::process::ExitCode;
-use tulonkasa::{Bank, Entry, Refusal, Split, Tile, ENTRIES_MOST};
+use tulonkasa::{Entry, Record, Refusal, Split, ENTRIES_MOST};
 
 const USE: &str = "\
 use: split CAPTURE
@@ -45,8 +45,8 @@ fn read(capture: &Path) -> Result<(Vec<Entry>, Vec<Refused>), Failure> {
     let mut input = open(capture)?;
     let (mut entries, mut refused) = (Vec::new(), Vec::new());
     for number in 0.. {
-        let Some((tile, bank)) = next_record(&mut input, capture, number.into())? else { break };
-        match entry(number, &tile, &bank) {
+        let Some(record) = next_record(&mut input, capture, number.into())? else { break };
+        match entry(number, &record) {
             Ok(entry) => entries.push(entry),
             Err(refusal) => refused.push((number, refusal)),
         }
@@ -57,7 +57,7 @@ fn read(capture: &Path) -> Result<(Vec<Entry>, Vec<Refused>), Failure> {
     Ok((entries, refused))
 }
 
-fn entry(number: u32, tile: &Tile, bank: &Bank) -> Result<Entry, Refusal> {
+fn entry(number: u32, Record { tile, bank }: &Record) -> Result<Entry, Refusal> {
     Entry::new(number, tile, LANE, &bank.key(tile, LANE)?)
 }
 
@@ -70,7 +70,7 @@ fn table(entries: &[Entry], refused: &[Refused], split: &Split) -> String {
     lines.sort();
 
     let mut text = String::from("capture\tside\tgroup\n");
-    lines.iter().for_each(|(number, cells)| text += &format!("{number}\t{cells}\n"));
+    text.extend(lines.iter().map(|(number, cells)| format!("{number}\t{cells}\n")));
     let (tuning, held_out) = (split.totals.tuning, split.totals.held_out);
     let (refused, groups) = (refused.len(), groups.iter().max().map_or(0, |last| last + 1));
     text + &format!("all\t{tuning} tuning, {held_out} held out, {refused} refused\t{groups} groups\n")

@@ -1,5 +1,5 @@
 //! The bank, and the calls on it.
-use crate::{slices, Checked, LaneMap, Picture, Refusal, Tile, Written};
+use crate::{slices, Checked, LaneMap, Picture, Refusal, Sampling, Tile, Written};
 
 /// The bytes of a bank, and of a key.
 pub const BANK_BYTES: usize = 4096;
@@ -69,13 +69,60 @@ impl From<[u8; BANK_BYTES]> for Bank {
     }
 }
 
+/// A bank of these bytes, none written by a load, and none with a reason. A slice of another length is refused by [`Refusal::Length`].
+///
+/// ```
+/// use tulonkasa::{Bank, Refusal};
+///
+/// let file = vec![7; 5000];
+/// assert_eq!(Bank::try_from(&file[..4096])?, Bank::from([7; 4096]));
+/// assert_eq!(Bank::try_from(&file[..]), Err(Refusal::Length));
+/// # Ok::<(), Refusal>(())
+/// ```
+impl TryFrom<&[u8]> for Bank {
+    type Error = Refusal;
+
+    fn try_from(bytes: &[u8]) -> Result<Self, Refusal> {
+        <[u8; BANK_BYTES]>::try_from(bytes).map(Self::from).map_err(|_| Refusal::Length)
+    }
+}
+
 impl Bank {
     /// A fresh bank: all zero, and nothing written by a load.
+    #[must_use]
     pub fn new() -> Self {
         Self::default()
     }
 
+    /// A bank of its bytes, the record of which load wrote each of them, and the reasons of rejected loads: what a C program keeps, or
+    /// what [`Bank::into_parts`] gave. Nothing is asked of the three, nor that they fit together.
+    ///
+    /// ```
+    /// use tulonkasa::{Bank, Tile};
+    ///
+    /// let mut bank = Bank::new();
+    /// let tile = Tile { siz: 2, ..Tile::default() };
+    /// bank.reject_block(&[0xf8, 0x01], &tile, 2, 0, 1, 7)?;
+    ///
+    /// let (bytes, written, reasons) = bank.into_parts(); // to a file, say, and from it
+    /// let mut bank = Bank::from_parts(bytes, written, reasons);
+    /// assert_eq!((bank.bytes()[0], bank.written().number_at(7), bank.reasons()[7]), (0xf8, 1, 7));
+    /// assert_eq!(bank.load_block(&[], &tile, 2, 0, 1)?.number, 2); // numbers go on
+    /// # Ok::<(), tulonkasa::Refusal>(())
+    /// ```
+    #[must_use]
+    pub fn from_parts(bytes: [u8; BANK_BYTES], written: Written, reasons: [u8; REASON_BYTES]) -> Self {
+        Self { bytes, written, reasons }
+    }
+
+    /// Its bytes, the record of which load wrote each of them, and the reasons of rejected loads.
+    #[must_use]
+    pub fn into_parts(self) -> ([u8; BANK_BYTES], Written, [u8; REASON_BYTES]) {
+        (self.bytes, self.written, self.reasons)
+    }
+
     /// Its bytes.
+    #[must_use]
     pub fn bytes(&self) -> &[u8; BANK_BYTES] {
         &self.bytes
     }
@@ -86,12 +133,14 @@ impl Bank {
     }
 
     /// Which load wrote each byte: the number of the last one that stored there.
+    #[must_use]
     pub fn written(&self) -> &Written {
         &self.written
     }
 
     /// Why the source of each byte was rejected: for each address the reason of the last load that stored there, 0 if that was not
     /// rejected, or none was.
+    #[must_use]
     pub fn reasons(&self) -> &[u8; REASON_BYTES] {
         &self.reasons
     }
@@ -103,7 +152,12 @@ macro_rules! loads {
         impl Bank {
             $(
                 $(#[$about])*
-                #[allow(clippy::too_many_arguments)]
+                ///
+                /// # Errors
+                ///
+                /// [`Refusal::Tile`] or [`Refusal::Load`] where a number is out of range, [`Refusal::Reason`] where the reason of a
+                /// rejected load is, and [`Refusal::Number`] after [`LOADS_MOST`](crate::LOADS_MOST) loads.
+                #[allow(clippy::too_many_arguments, reason = "a load of the console has so many numbers")]
                 pub fn $name(
                     &mut self,
                     source: &[u8],
@@ -234,6 +288,10 @@ impl Bank {
     /// assert_eq!(bank.sample_tile(&tile, 0)?, [255, 0, 0, 255]);
     /// # Ok::<(), tulonkasa::Refusal>(())
     /// ```
+    ///
+    /// # Errors
+    ///
+    /// [`Refusal::Tile`], [`Refusal::ModeOrLane`] or [`Refusal::Pair`].
     pub fn sample_tile(&self, tile: &Tile, lane: u32) -> Result<Vec<u8>, Refusal> {
         let mut picture = vec![0; 4 * tile.texels()?];
         self.sample_tile_into(tile, lane, &mut picture)?;
@@ -252,12 +310,48 @@ impl Bank {
     /// assert_eq!(picture.to_pam()?.len(), 65 + 4 * 2 * 3);
     /// # Ok::<(), tulonkasa::Refusal>(())
     /// ```
+    ///
+    /// # Errors
+    ///
+    /// [`Refusal::Tile`], [`Refusal::ModeOrLane`] or [`Refusal::Pair`].
     pub fn picture(&self, tile: &Tile, lane: u32) -> Result<Picture, Refusal> {
         let texels = self.sample_tile(tile, lane)?;
         Ok(Picture { width: tile.width, height: tile.height, texels })
     }
 
+    /// The picture that the tile calls for, as [`Tile::sampling`] says it: the plain one, or the lookup, which is 4,096 by 4. It is the one
+    /// whose visible part [`Bank::key`] is for.
+    ///
+    /// ```
+    /// use tulonkasa::{Bank, Tile};
+    ///
+    /// let bank = Bank::from([9; 4096]);
+    /// let plain = Tile { fmt: 4, siz: 1, line: 1, width: 2, height: 3, ..Tile::default() };
+    /// assert_eq!(bank.picture_called_for(&plain, 0)?, bank.picture(&plain, 0)?);
+    ///
+    /// let lookup = bank.picture_called_for(&Tile { masks: 5, ..plain }, 0)?; // repeats after 32 texels, and is 2 wide
+    /// assert_eq!((lookup.width, lookup.height), (4096, 4));
+    /// # Ok::<(), tulonkasa::Refusal>(())
+    /// ```
+    ///
+    /// # Errors
+    ///
+    /// [`Refusal::Tile`], [`Refusal::ModeOrLane`] or [`Refusal::Pair`].
+    pub fn picture_called_for(&self, tile: &Tile, lane: u32) -> Result<Picture, Refusal> {
+        let Sampling { lookup, width, height } = tile.sampling()?;
+        if lookup {
+            let texels = self.sampling_lookup(tile, lane)?;
+            Ok(Picture { width, height, texels })
+        } else {
+            self.picture(tile, lane)
+        }
+    }
+
     /// The plain picture into a lent buffer, whose surplus stays as it is. Answers the count of reads.
+    ///
+    /// # Errors
+    ///
+    /// [`Refusal::Tile`], [`Refusal::ModeOrLane`] or [`Refusal::Pair`], and [`Refusal::Picture`] for a buffer that is too short.
     pub fn sample_tile_into(&self, tile: &Tile, lane: u32, picture: &mut [u8]) -> Result<u32, Refusal> {
         slices::sample_tile(&self.bytes, tile, lane, picture)
     }
@@ -271,6 +365,10 @@ impl Bank {
     /// assert_eq!(Bank::new().sample_tile_observed(&tile, 0)?.trail, [0, 1, 2048, 2049]);
     /// # Ok::<(), tulonkasa::Refusal>(())
     /// ```
+    ///
+    /// # Errors
+    ///
+    /// [`Refusal::Tile`], [`Refusal::ModeOrLane`] or [`Refusal::Pair`].
     pub fn sample_tile_observed(&self, tile: &Tile, lane: u32) -> Result<Observed, Refusal> {
         Observed::fill(tile.texels()?, |picture, trail| {
             slices::sample_tile_observed(&self.bytes, tile, lane, picture, trail)
@@ -278,6 +376,10 @@ impl Bank {
     }
 
     /// The tile's lookup: [`LOOKUP_TEXELS`] texels of four bytes, one for each place of the bank.
+    ///
+    /// # Errors
+    ///
+    /// [`Refusal::Tile`], [`Refusal::ModeOrLane`] or [`Refusal::Pair`].
     pub fn sampling_lookup(&self, tile: &Tile, lane: u32) -> Result<Vec<u8>, Refusal> {
         let mut picture = vec![0; 4 * LOOKUP_TEXELS];
         self.sampling_lookup_into(tile, lane, &mut picture)?;
@@ -285,11 +387,19 @@ impl Bank {
     }
 
     /// The lookup into a lent buffer, whose surplus stays as it is. Answers the count of reads.
+    ///
+    /// # Errors
+    ///
+    /// [`Refusal::Tile`], [`Refusal::ModeOrLane`] or [`Refusal::Pair`], and [`Refusal::Picture`] for a buffer that is too short.
     pub fn sampling_lookup_into(&self, tile: &Tile, lane: u32, picture: &mut [u8]) -> Result<u32, Refusal> {
         slices::sampling_lookup(&self.bytes, tile, lane, picture)
     }
 
     /// The lookup, with the addresses that were read.
+    ///
+    /// # Errors
+    ///
+    /// [`Refusal::Tile`], [`Refusal::ModeOrLane`] or [`Refusal::Pair`].
     pub fn sampling_lookup_observed(&self, tile: &Tile, lane: u32) -> Result<Observed, Refusal> {
         Observed::fill(LOOKUP_TEXELS, |picture, trail| {
             slices::sampling_lookup_observed(&self.bytes, tile, lane, picture, trail)
@@ -297,6 +407,10 @@ impl Bank {
     }
 
     /// Whether the tile can reach an address that a load has written.
+    ///
+    /// # Errors
+    ///
+    /// [`Refusal::Tile`] or [`Refusal::ModeOrLane`].
     pub fn tile_has_load(&self, tile: &Tile) -> Result<bool, Refusal> {
         slices::tile_has_load(tile, self.written.bytes())
     }
@@ -318,11 +432,19 @@ impl Bank {
     /// assert_eq!(bank.rejection(&Tile { height: 1, ..tile })?, None);
     /// # Ok::<(), tulonkasa::Refusal>(())
     /// ```
+    ///
+    /// # Errors
+    ///
+    /// [`Refusal::Tile`] or [`Refusal::ModeOrLane`].
     pub fn rejection(&self, tile: &Tile) -> Result<Option<u32>, Refusal> {
         slices::rejection(tile, &self.reasons)
     }
 
     /// The palette slots whose four pairs of bytes are not all equal.
+    ///
+    /// # Errors
+    ///
+    /// None: bank and map have their lengths.
     pub fn palette_nonreplicated(&self) -> Result<LaneMap, Refusal> {
         let mut map = LaneMap::default();
         slices::palette_nonreplicated(&self.bytes, &mut map.0)?;
@@ -353,6 +475,10 @@ impl Bank {
     /// assert_eq!(bank.key(&wide, 0)?, bank.key(&narrow, 0)?);
     /// # Ok::<(), tulonkasa::Refusal>(())
     /// ```
+    ///
+    /// # Errors
+    ///
+    /// [`Refusal::Tile`], [`Refusal::ModeOrLane`] or [`Refusal::Pair`].
     pub fn key(&self, tile: &Tile, lane: u32) -> Result<Key, Refusal> {
         let mut bytes = [0; BANK_BYTES];
         let kept = slices::key(&self.bytes, tile, lane, &mut bytes)?;
@@ -378,6 +504,10 @@ impl Bank {
     /// assert_eq!(bank.check_key(&tile, 0, &offer)?.to_string(), "the byte at address 1 is missing");
     /// # Ok::<(), tulonkasa::Refusal>(())
     /// ```
+    ///
+    /// # Errors
+    ///
+    /// [`Refusal::Tile`], [`Refusal::ModeOrLane`] or [`Refusal::Pair`].
     pub fn check_key(&self, tile: &Tile, lane: u32, offer: &[u8; BANK_BYTES]) -> Result<Checked, Refusal> {
         slices::check_key(&self.bytes, tile, lane, offer)
     }
@@ -421,6 +551,11 @@ impl Bank {
     /// assert_eq!((bank.written().number_at(7), bank.written().last()), (1, 1));
     /// # Ok::<(), tulonkasa::Refusal>(())
     /// ```
+    ///
+    /// # Errors
+    ///
+    /// [`Refusal::Torn`], [`Refusal::Kind`] or [`Refusal::Tile`]; of a load also [`Refusal::Load`], [`Refusal::Beyond`] or
+    /// [`Refusal::Number`]; of a key also [`Refusal::ModeOrLane`] or [`Refusal::Pair`].
     pub fn replay_record(&mut self, record: &[u8], end: u64, part: &[u8]) -> Result<u32, Refusal> {
         let Self { bytes, written: Written { bytes: written, last }, reasons } = self;
         slices::replay_record(bytes, written, reasons, record, end, part, last)

@@ -17,11 +17,13 @@ pub enum Checked {
 
 impl Checked {
     /// Whether the offer is the key.
+    #[must_use]
     pub fn is_right(self) -> bool {
         self == Self::Right
     }
 
     /// The lowest wrong address; none of a right key.
+    #[must_use]
     pub fn address(self) -> Option<u16> {
         match self {
             Self::Right => None,
@@ -29,9 +31,10 @@ impl Checked {
         }
     }
 
-    /// By the numbers of an answer that is not refused.
+    /// By the numbers of an answer that is not refused, whose address is below that of a bank's end.
     pub(crate) fn from_numbers(yes: u32, address: u32, wrong: u32) -> Self {
-        let address = address as u16;
+        let [_, _, high, low] = address.to_be_bytes();
+        let address = u16::from_be_bytes([high, low]);
         match (yes, wrong) {
             (1, _) => Self::Right,
             (_, 1) => Self::Missing { address },

@@ -129,6 +129,8 @@ loads! {
 }
 
 extern "C" {
+    pub fn tk_version() -> u32;
+
     pub fn tk_decode_linear(
         source: *const u8,
         source_length: usize,

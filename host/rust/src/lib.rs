@@ -29,6 +29,7 @@ mod check;
 pub mod ffi;
 mod map;
 mod picture;
+mod record;
 mod refusal;
 pub mod slices;
 mod split;
@@ -39,7 +40,9 @@ pub use bank::{Bank, Key, Loaded, Observed, BANK_BYTES, LOOKUP_TEXELS, REASON_BY
 pub use check::Checked;
 pub use map::{AddressMap, LaneMap, Map};
 pub use picture::{Picture, PAM_HEADER_MOST};
+pub use record::Record;
 pub use refusal::Refusal;
+pub use slices::version;
 pub use split::{split, Entry, Side, Split, Totals, ENTRIES_MOST, ENTRY_BYTES};
 pub use tile::{Sampling, Tile, SIDE_MOST, TILE_BYTES};
 pub use written::{Written, LOADS_MOST, WRITTEN_BYTES};

@@ -18,6 +18,7 @@ impl<const N: usize> Default for Map<N> {
 
 impl<const N: usize> Map<N> {
     /// Whether `number` is marked. A number past the map is not.
+    #[must_use]
     pub fn is_marked(&self, number: usize) -> bool {
         self.0.get(number / 8).is_some_and(|byte| byte >> (number % 8) & 1 == 1)
     }
@@ -28,6 +29,7 @@ impl<const N: usize> Map<N> {
     }
 
     /// How many numbers are marked.
+    #[must_use]
     pub fn count(&self) -> usize {
         self.0.iter().map(|byte| byte.count_ones() as usize).sum()
     }

@@ -43,6 +43,10 @@ impl Picture {
     /// assert_eq!(picture(1, SIDE_MOST + 1).to_pam(), Err(Refusal::Tile));
     /// # Ok::<(), Refusal>(())
     /// ```
+    ///
+    /// # Errors
+    ///
+    /// [`Refusal::Tile`], [`Refusal::ZeroSide`] or [`Refusal::Picture`].
     pub fn to_pam(&self) -> Result<Vec<u8>, Refusal> {
         let mut file = vec![0; PAM_HEADER_MOST + self.texels.len()];
         let bytes = slices::write_pam(self.width, self.height, &self.texels, &mut file)?;
@@ -64,6 +68,10 @@ impl Picture {
     /// assert_eq!(Picture::from_pam(gray), Err(Refusal::Tuples));
     /// assert_eq!(Picture::from_pam(b"P6\n1 1\n255\nRGB"), Err(Refusal::Header));
     /// ```
+    ///
+    /// # Errors
+    ///
+    /// [`Refusal::Header`], [`Refusal::Tuples`], [`Refusal::Tile`] or [`Refusal::Texels`].
     pub fn from_pam(file: &[u8]) -> Result<Self, Refusal> {
         // Whatever size the header states, the texels are no more than the file.
         let mut texels = vec![0; file.len()];

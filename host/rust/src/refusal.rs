@@ -5,8 +5,8 @@ use std::fmt;
 #[derive(Clone, Copy, Debug, PartialEq, Eq, Hash)]
 #[non_exhaustive]
 pub enum Refusal {
-    /// 1: a bank, key, written record or map, or the reasons, have a wrong length. The calls of [`crate::slices`] can get it; those on
-    /// this crate's own types can't.
+    /// 1: a bank, key, written record or map, or the reasons, have a wrong length. The calls of [`crate::slices`] can get it, and a
+    /// [`crate::Bank`] or [`crate::Record`] of a slice; other calls on this crate's own types can't.
     Length,
     /// 2: a field of the tile is out of range, or a side of a picture is above [`crate::SIDE_MOST`].
     Tile,
@@ -20,7 +20,7 @@ pub enum Refusal {
     Picture,
     /// 7: the trail's buffer is shorter than 2 bytes a read.
     Trail,
-    /// 8: a capture's record has fewer than 48 bytes.
+    /// 8: a replay's record has fewer than 48 bytes.
     Torn,
     /// 10: the kind of a capture's record is above 3.
     Kind,
@@ -37,7 +37,7 @@ pub enum Refusal {
     /// 16: the count of a split's entries is above [`crate::ENTRIES_MOST`].
     Count,
     /// 17: a split's entries are not [`crate::ENTRY_BYTES`] each, or its sides not one byte each. The call of [`crate::slices`] can
-    /// get it; the one on this crate's own types can't.
+    /// get it, and an [`crate::Entry`] of a slice.
     Entries,
     /// 18: no number is left for a load: there were [`crate::LOADS_MOST`] since the bank was fresh.
     Number,
@@ -49,6 +49,7 @@ pub enum Refusal {
 
 impl Refusal {
     /// The refusal of a number; none for 0, success.
+    #[must_use]
     pub fn from_number(number: u32) -> Option<Self> {
         Some(match number {
             0 => return None,
@@ -75,6 +76,7 @@ impl Refusal {
     }
 
     /// Its number, as C programs see it.
+    #[must_use]
     pub fn number(self) -> u32 {
         match self {
             Self::Length => 1,
@@ -99,18 +101,18 @@ impl Refusal {
         }
     }
 
-    /// `value`, unless the number is a refusal's.
-    pub(crate) fn check<T>(number: u32, value: T) -> Result<T, Self> {
-        match Self::from_number(number) {
-            None => Ok(value),
-            Some(refusal) => Err(refusal),
-        }
-    }
-}
-
-impl fmt::Display for Refusal {
-    fn fmt(&self, f: &mut fmt::Formatter<'_>) -> fmt::Result {
-        let words = match self {
+    /// What it means, in words, for a message to people: those of `tk_refusal_text` in C. The words may get better; programs go by the
+    /// refusal.
+    ///
+    /// ```
+    /// use tulonkasa::Refusal;
+    ///
+    /// assert_eq!(Refusal::Count.words(), "there are more than 4,096 entries");
+    /// assert_eq!(Refusal::Count.to_string(), "refusal 16: there are more than 4,096 entries");
+    /// ```
+    #[must_use]
+    pub fn words(self) -> &'static str {
+        match self {
             Self::Length => "a bank, key, written record or map, or the reasons, have a wrong length",
             Self::Tile => "a field of the tile is out of range, or a side of the picture",
             Self::ModeOrLane => "mode or lane is above 3",
@@ -130,8 +132,21 @@ impl fmt::Display for Refusal {
             Self::Number => "there were 65,535 loads, and no number is left for another",
             Self::Reason => "the reason of a rejected load is not from 1 to 255",
             Self::Other(_) => "a refusal without a name",
-        };
-        write!(f, "refusal {}: {words}", self.number())
+        }
+    }
+
+    /// `value`, unless the number is a refusal's.
+    pub(crate) fn check<T>(number: u32, value: T) -> Result<T, Self> {
+        match Self::from_number(number) {
+            None => Ok(value),
+            Some(refusal) => Err(refusal),
+        }
+    }
+}
+
+impl fmt::Display for Refusal {
+    fn fmt(&self, f: &mut fmt::Formatter<'_>) -> fmt::Result {
+        write!(f, "refusal {}: {}", self.number(), self.words())
     }
 }
 

@@ -23,7 +23,12 @@ macro_rules! loads {
     ($($(#[$about:meta])* fn $name:ident = $entry:ident($($number:ident),*);)*) => {
         $(
             $(#[$about])*
-            #[allow(clippy::too_many_arguments)]
+            ///
+            /// # Errors
+            ///
+            /// [`Refusal::Length`], [`Refusal::Tile`] or [`Refusal::Load`]; of a rejected load also [`Refusal::Reason`]; and
+            /// [`Refusal::Number`] where no number is left.
+            #[allow(clippy::too_many_arguments, reason = "they are those of the archive's entry")]
             pub fn $name(
                 bank: &mut [u8],
                 written: &mut [u8],
@@ -76,7 +81,23 @@ loads! {
     fn reject_tlut_rows = tk_reject_tlut_rows(count, rows, stride, reason);
 }
 
+/// Answers the version of the linked library as one number: a million times the first of its numbers, a thousand times the second, and
+/// the third. It is this crate's own where both are of one release; `include/tulonkasa.h` says what a new number means.
+///
+/// ```
+/// assert_eq!(tulonkasa::version() / 1_000_000, 1);
+/// ```
+#[must_use]
+pub fn version() -> u32 {
+    // SAFETY: it is lent nothing.
+    unsafe { ffi::tk_version() }
+}
+
 /// Answers which picture the tile calls for.
+///
+/// # Errors
+///
+/// [`Refusal::Tile`] or [`Refusal::ModeOrLane`].
 pub fn sampling(tile: &Tile) -> Result<Sampling, Refusal> {
     let answer = call!(tk_sampling(tile));
     let sampling = Sampling { lookup: answer.flag == 1, width: answer.width, height: answer.height };
@@ -84,11 +105,19 @@ pub fn sampling(tile: &Tile) -> Result<Sampling, Refusal> {
 }
 
 /// Answers the count of reads.
+///
+/// # Errors
+///
+/// [`Refusal::Length`], [`Refusal::Tile`], [`Refusal::ModeOrLane`], [`Refusal::Pair`] or [`Refusal::Picture`].
 pub fn sample_tile(bank: &[u8], tile: &Tile, lane: u32, picture: &mut [u8]) -> Result<u32, Refusal> {
     counted(call!(tk_sample_tile([bank], tile, lane, [mut picture])))
 }
 
 /// Answers the count of reads.
+///
+/// # Errors
+///
+/// [`Refusal::Length`], [`Refusal::Tile`], [`Refusal::ModeOrLane`], [`Refusal::Pair`], [`Refusal::Picture`] or [`Refusal::Trail`].
 pub fn sample_tile_observed(
     bank: &[u8],
     tile: &Tile,
@@ -100,11 +129,19 @@ pub fn sample_tile_observed(
 }
 
 /// Answers the count of reads.
+///
+/// # Errors
+///
+/// [`Refusal::Length`], [`Refusal::Tile`], [`Refusal::ModeOrLane`], [`Refusal::Pair`] or [`Refusal::Picture`].
 pub fn sampling_lookup(bank: &[u8], tile: &Tile, lane: u32, picture: &mut [u8]) -> Result<u32, Refusal> {
     counted(call!(tk_sampling_lookup([bank], tile, lane, [mut picture])))
 }
 
 /// Answers the count of reads.
+///
+/// # Errors
+///
+/// [`Refusal::Length`], [`Refusal::Tile`], [`Refusal::ModeOrLane`], [`Refusal::Pair`], [`Refusal::Picture`] or [`Refusal::Trail`].
 pub fn sampling_lookup_observed(
     bank: &[u8],
     tile: &Tile,
@@ -117,6 +154,10 @@ pub fn sampling_lookup_observed(
 
 /// Decodes a source to a picture, without a bank, and answers the count of source bytes that were asked for. Of the tile it takes `fmt`,
 /// `siz`, `palette`, `width` and `height`.
+///
+/// # Errors
+///
+/// [`Refusal::Tile`], [`Refusal::Load`], [`Refusal::Pair`] or [`Refusal::Picture`].
 pub fn decode_linear(source: &[u8], tile: &Tile, stride: u32, picture: &mut [u8]) -> Result<u32, Refusal> {
     // SAFETY: each pointer comes with its slice's length, and Rust's borrows do not overlap.
     let answer = unsafe {
@@ -138,6 +179,10 @@ pub fn decode_linear(source: &[u8], tile: &Tile, stride: u32, picture: &mut [u8]
 
 /// Writes a picture as a PAM file, and answers the count of the file's bytes. A file of [`crate::PAM_HEADER_MOST`] bytes and four
 /// a texel is long enough.
+///
+/// # Errors
+///
+/// [`Refusal::Tile`], [`Refusal::ZeroSide`] or [`Refusal::Picture`].
 pub fn write_pam(width: u32, height: u32, picture: &[u8], file: &mut [u8]) -> Result<u32, Refusal> {
     // SAFETY: each pointer comes with its slice's length, and Rust's borrows do not overlap.
     let answer =
@@ -146,6 +191,10 @@ pub fn write_pam(width: u32, height: u32, picture: &[u8], file: &mut [u8]) -> Re
 }
 
 /// Reads a PAM file, and answers the picture's width and height. A picture as long as the file is long enough.
+///
+/// # Errors
+///
+/// [`Refusal::Header`], [`Refusal::Tuples`], [`Refusal::Tile`], [`Refusal::Texels`] or [`Refusal::Picture`].
 pub fn read_pam(file: &[u8], picture: &mut [u8]) -> Result<(u32, u32), Refusal> {
     // SAFETY: each pointer comes with its slice's length, and Rust's borrows do not overlap.
     let answer = unsafe { ffi::tk_read_pam(file.as_ptr(), file.len(), picture.as_mut_ptr(), picture.len()) };
@@ -153,11 +202,19 @@ pub fn read_pam(file: &[u8], picture: &mut [u8]) -> Result<(u32, u32), Refusal> 
 }
 
 /// Overwrites the map.
+///
+/// # Errors
+///
+/// [`Refusal::Length`], [`Refusal::Tile`] or [`Refusal::ModeOrLane`].
 pub fn reach(tile: &Tile, map: &mut [u8]) -> Result<(), Refusal> {
     Refusal::check(call!(tk_reach(tile, [mut map])), ())
 }
 
 /// Answers whether the tile reaches an address that the written record has a number at.
+///
+/// # Errors
+///
+/// [`Refusal::Length`], [`Refusal::Tile`] or [`Refusal::ModeOrLane`].
 pub fn tile_has_load(tile: &Tile, written: &[u8]) -> Result<bool, Refusal> {
     let (record, length) = (written.as_ptr(), written.len());
     let answer = call!(tk_tile_has_load(tile, record, length));
@@ -165,6 +222,10 @@ pub fn tile_has_load(tile: &Tile, written: &[u8]) -> Result<bool, Refusal> {
 }
 
 /// Answers the reason at the first address that the tile can reach, or that its palette has, and that has a reason; none if none has.
+///
+/// # Errors
+///
+/// [`Refusal::Length`], [`Refusal::Tile`] or [`Refusal::ModeOrLane`].
 pub fn rejection(tile: &Tile, reasons: &[u8]) -> Result<Option<u32>, Refusal> {
     let (map, length) = (reasons.as_ptr(), reasons.len());
     let answer = call!(tk_rejection(tile, map, length));
@@ -172,6 +233,10 @@ pub fn rejection(tile: &Tile, reasons: &[u8]) -> Result<Option<u32>, Refusal> {
 }
 
 /// Overwrites the lane map.
+///
+/// # Errors
+///
+/// [`Refusal::Length`].
 pub fn palette_nonreplicated(bank: &[u8], map: &mut [u8]) -> Result<(), Refusal> {
     // SAFETY: each pointer comes with its slice's length, and Rust's borrows do not overlap.
     let refusal = unsafe { ffi::tk_palette_nonreplicated(bank.as_ptr(), bank.len(), map.as_mut_ptr(), map.len()) };
@@ -179,11 +244,19 @@ pub fn palette_nonreplicated(bank: &[u8], map: &mut [u8]) -> Result<(), Refusal>
 }
 
 /// Overwrites the key, and answers the count of kept bytes.
+///
+/// # Errors
+///
+/// [`Refusal::Length`], [`Refusal::Tile`], [`Refusal::ModeOrLane`] or [`Refusal::Pair`].
 pub fn key(bank: &[u8], tile: &Tile, lane: u32, key: &mut [u8]) -> Result<u32, Refusal> {
     counted(call!(tk_key([bank], tile, lane, [mut key])))
 }
 
 /// Answers whether the offer is the key, and what is wrong with it where it is not.
+///
+/// # Errors
+///
+/// [`Refusal::Length`], [`Refusal::Tile`], [`Refusal::ModeOrLane`] or [`Refusal::Pair`].
 pub fn check_key(bank: &[u8], tile: &Tile, lane: u32, offer: &[u8]) -> Result<Checked, Refusal> {
     let (offered, length) = (offer.as_ptr(), offer.len());
     let answer = call!(tk_check_key([bank], tile, lane, offered, length));
@@ -193,6 +266,11 @@ pub fn check_key(bank: &[u8], tile: &Tile, lane: u32, offer: &[u8]) -> Result<Ch
 /// Does a record of a capture, and answers the count of its stores, or of the bytes that its key would keep. `last` is the number of the
 /// last load before and after it; a key and a refused record leave it. A record's load is an ordinary one: the reasons are 0 where it
 /// stored.
+///
+/// # Errors
+///
+/// [`Refusal::Length`], [`Refusal::Torn`], [`Refusal::Kind`] or [`Refusal::Tile`]; of a load also [`Refusal::Load`], [`Refusal::Beyond`] or
+/// [`Refusal::Number`]; of a key also [`Refusal::ModeOrLane`] or [`Refusal::Pair`].
 pub fn replay_record(
     bank: &mut [u8],
     written: &mut [u8],
@@ -224,6 +302,10 @@ pub fn replay_record(
 }
 
 /// Overwrites the sides of `count` entries, 0 for tuning and 1 for held out, and answers how many entries are on each.
+///
+/// # Errors
+///
+/// [`Refusal::Count`] or [`Refusal::Entries`].
 pub fn split(count: u32, entries: &[u8], sides: &mut [u8]) -> Result<Totals, Refusal> {
     // SAFETY: each pointer comes with its slice's length, and Rust's borrows do not overlap.
     let answer = unsafe { ffi::tk_split(count, entries.as_ptr(), entries.len(), sides.as_mut_ptr(), sides.len()) };
@@ -231,6 +313,7 @@ pub fn split(count: u32, entries: &[u8], sides: &mut [u8]) -> Result<Totals, Ref
 }
 
 /// The bytes of entries, one entry behind the other, as [`split`] takes them.
+#[must_use]
 pub fn entry_bytes(entries: &[Entry]) -> &[u8] {
     // SAFETY: an entry is its array of bytes and nothing else (`repr(transparent)`).
     let arrays = unsafe { std::slice::from_raw_parts(entries.as_ptr().cast::<[u8; ENTRY_BYTES]>(), entries.len()) };

@@ -38,47 +38,73 @@ impl From<[u8; ENTRY_BYTES]> for Entry {
     }
 }
 
+/// An entry of these bytes, which may be any. A slice of another length is refused by [`Refusal::Entries`].
+///
+/// ```
+/// use tulonkasa::{Entry, Refusal, ENTRY_BYTES};
+///
+/// let file = vec![7; 2 * ENTRY_BYTES];
+/// assert!(file.chunks(ENTRY_BYTES).map(Entry::try_from).all(|entry| entry.is_ok()));
+/// assert_eq!(Entry::try_from(&file[..]), Err(Refusal::Entries));
+/// ```
+impl TryFrom<&[u8]> for Entry {
+    type Error = Refusal;
+
+    fn try_from(bytes: &[u8]) -> Result<Self, Refusal> {
+        <[u8; ENTRY_BYTES]>::try_from(bytes).map(Self).map_err(|_| Refusal::Entries)
+    }
+}
+
 impl Entry {
     /// The entry of a capture. The key is the one that [`crate::Bank::key`] cut for this tile and lane.
+    ///
+    /// # Errors
+    ///
+    /// [`Refusal::Tile`] or [`Refusal::ModeOrLane`].
     pub fn new(capture: u32, tile: &Tile, lane: u32, key: &Key) -> Result<Self, Refusal> {
         let tile = tile.to_bytes()?;
-        if lane > 3 {
-            return Err(Refusal::ModeOrLane);
-        }
+        let Ok(lane @ 0..=3) = u8::try_from(lane) else { return Err(Refusal::ModeOrLane) };
         let mut bytes = [0; ENTRY_BYTES];
         bytes[..BODY_AT].copy_from_slice(&capture.to_be_bytes());
         bytes[BODY_AT..LANE_AT].copy_from_slice(&tile);
-        bytes[LANE_AT] = lane as u8;
+        bytes[LANE_AT] = lane;
         bytes[KEY_AT..].copy_from_slice(&key.bytes);
         Ok(Self(bytes))
     }
 
     /// Its bytes: four of the capture number, big end first, and then the body.
+    #[must_use]
     pub fn bytes(&self) -> &[u8; ENTRY_BYTES] {
         &self.0
     }
 
     /// The number of its capture, which does not matter to a split.
+    #[must_use]
     pub fn capture(&self) -> u32 {
         u32::from_be_bytes([self.0[0], self.0[1], self.0[2], self.0[3]])
     }
 
     /// Its tile and mode, whose numbers may be out of range.
+    #[must_use]
     pub fn tile(&self) -> Tile {
-        Tile::from_bytes(self.0[BODY_AT..].first_chunk().expect("a tile's bytes"))
+        Tile::from(std::array::from_fn(|place| self.0[BODY_AT + place]))
     }
 
     /// Its lane, which may be out of range.
+    #[must_use]
     pub fn lane(&self) -> u32 {
         self.0[LANE_AT].into()
     }
 
     /// Its key, which may be any bytes.
+    #[must_use]
+    #[allow(clippy::missing_panics_doc, reason = "an entry is longer than a key")]
     pub fn key(&self) -> &[u8; BANK_BYTES] {
         self.0.last_chunk().expect("a key's bytes")
     }
 
     /// What entries of one group have in common: the tile's sixteen bytes, the lane's one, and the key.
+    #[must_use]
     pub fn body(&self) -> &[u8] {
         &self.0[BODY_AT..]
     }
@@ -156,6 +182,10 @@ pub struct Split {
 /// assert_eq!(split.sides[7].to_string(), "held out");
 /// # Ok::<(), tulonkasa::Refusal>(())
 /// ```
+///
+/// # Errors
+///
+/// [`Refusal::Count`].
 pub fn split(entries: &[Entry]) -> Result<Split, Refusal> {
     // No count above 32 bits is taken, and neither is the largest of them.
     let count = u32::try_from(entries.len()).unwrap_or(u32::MAX);

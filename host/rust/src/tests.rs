@@ -7,6 +7,7 @@ fn rising(n: u8) -> Vec<u8> {
 }
 
 /// What the first load of a bank answers that is not refused.
+#[allow(clippy::unnecessary_wraps, reason = "answers are compared with it")]
 fn loaded(count: u32, made_up: u32) -> Result<Loaded, Refusal> {
     Ok(Loaded { count, made_up, number: 1 })
 }
@@ -111,7 +112,7 @@ fn a_refused_load_changes_nothing() {
     assert_eq!(bank.load_block(&[1], &tile, 2, 4096, 2), Err(Refusal::Load));
     assert_eq!(bank.load_tile(&[1], &tile, 4, 1, 1, 0), Err(Refusal::Load));
     assert_eq!(bank.load_tlut_rows(&[1], &tile, 2, 1, 0, 0), Err(Refusal::Load));
-    assert_eq!(bank.load_tlut_hardware(&[1; 65537], &tile, 2, 1, 1, 0), Err(Refusal::Load));
+    assert_eq!(bank.load_tlut_hardware(&vec![1; 65537], &tile, 2, 1, 1, 0), Err(Refusal::Load));
     assert_eq!(bank, before);
 }
 
@@ -292,8 +293,8 @@ fn limits() {
     assert_eq!(bank.sample_tile(&Tile { mode: 4, ..tile }, 0), Err(Refusal::ModeOrLane));
     assert_eq!(bank.key(&Tile { fmt: 1, siz: 2, ..tile }, 0), Err(Refusal::Pair));
     assert!(bank.key(&Tile { fmt: 1, siz: 2, mode: 2, ..tile }, 0).is_ok());
-    assert_eq!(Bank::new().load_block(&[0; 65537], &tile, 2, 0, 1), Err(Refusal::Load));
-    assert_eq!(Bank::new().load_block(&[0; 65536], &tile, 2, 0, 1), loaded(8, 0));
+    assert_eq!(Bank::new().load_block(&vec![0; 65537], &tile, 2, 0, 1), Err(Refusal::Load));
+    assert_eq!(Bank::new().load_block(&vec![0; 65536], &tile, 2, 0, 1), loaded(8, 0));
 }
 
 #[test]
@@ -365,7 +366,9 @@ fn a_replay_does_each_load_as_its_own_call_does() {
     let check = |kind, numbers: &[(usize, u16)], load: &dyn Fn(&mut Bank) -> Result<Loaded, Refusal>| {
         let mut record = record;
         record[0] = kind;
-        numbers.iter().for_each(|&(place, number)| put(&mut record, place, number.to_be_bytes()));
+        for &(place, number) in numbers {
+            put(&mut record, place, number.to_be_bytes());
+        }
         let (mut replayed, mut loaded) = (Bank::new(), Bank::new());
         assert_eq!(replayed.replay_record(&record, 47, &source), load(&mut loaded).map(|loaded| loaded.count));
         assert_eq!(replayed, loaded);
@@ -390,7 +393,9 @@ fn a_refused_record_changes_nothing() {
     let source = vec![1; 65537];
     let block = block_record(0, 8);
     let with = |mut record: [u8; 48], changes: &[(usize, u8)]| {
-        changes.iter().for_each(|&(place, byte)| record[place] = byte);
+        for &(place, byte) in changes {
+            record[place] = byte;
+        }
         record
     };
     let key = key_record(8);

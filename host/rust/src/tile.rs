@@ -49,6 +49,13 @@ pub struct Sampling {
     pub height: u32,
 }
 
+/// The tile of a record's bytes, as [`Tile::from_bytes`] makes it.
+impl From<[u8; TILE_BYTES]> for Tile {
+    fn from(bytes: [u8; TILE_BYTES]) -> Self {
+        Self::from_bytes(&bytes)
+    }
+}
+
 impl Tile {
     /// The tile of a record's bytes: `fmt`, `siz`, `palette`, `mode`, `cms`, `cmt`, `masks` and `maskt`, a byte each; `line`,
     /// `tmem_addr`, `width` and `height`, two bytes each, big end first. Every record has a tile, whose numbers may be out of range.
@@ -60,6 +67,7 @@ impl Tile {
     /// assert_eq!(tile, Tile { fmt: 4, siz: 1, line: 1, width: 256, height: 32, ..Tile::default() });
     /// assert_eq!(Tile::from_bytes(&[255; 16]).sampling(), Err(Refusal::Tile));
     /// ```
+    #[must_use]
     pub fn from_bytes(bytes: &[u8; TILE_BYTES]) -> Self {
         let one = |place: usize| u32::from(bytes[place]);
         let two = |place: usize| u32::from(u16::from_be_bytes([bytes[place], bytes[place + 1]]));
@@ -88,13 +96,17 @@ impl Tile {
     /// assert_eq!(tile.to_bytes(), Ok([4, 1, 0, 0, 0, 0, 0, 0, 0, 1, 0, 0, 1, 0, 0, 32]));
     /// assert_eq!(Tile { fmt: 256, ..tile }.to_bytes(), Err(Refusal::Tile));
     /// ```
+    ///
+    /// # Errors
+    ///
+    /// [`Refusal::Tile`] or [`Refusal::ModeOrLane`].
     pub fn to_bytes(&self) -> Result<[u8; TILE_BYTES], Refusal> {
         self.sampling()?;
         let one = [self.fmt, self.siz, self.palette, self.mode, self.cms, self.cmt, self.masks, self.maskt];
         let two = [self.line, self.tmem_addr, self.width, self.height];
         let mut bytes = [0; TILE_BYTES];
-        bytes[..8].copy_from_slice(&one.map(|number| number as u8));
-        bytes[8..].copy_from_slice(two.map(|number| (number as u16).to_be_bytes()).as_flattened());
+        bytes[..8].copy_from_slice(&one.map(|number| number.to_be_bytes()[3]));
+        bytes[8..].copy_from_slice(two.map(|number| [number.to_be_bytes()[2], number.to_be_bytes()[3]]).as_flattened());
         Ok(bytes)
     }
 
@@ -109,6 +121,10 @@ impl Tile {
     /// assert_eq!((sampling.width, sampling.height), (4096, 4));
     /// # Ok::<(), tulonkasa::Refusal>(())
     /// ```
+    ///
+    /// # Errors
+    ///
+    /// [`Refusal::Tile`] or [`Refusal::ModeOrLane`].
     pub fn sampling(&self) -> Result<Sampling, Refusal> {
         slices::sampling(self)
     }
@@ -122,6 +138,10 @@ impl Tile {
     /// assert_eq!(tile.reach()?.iter().collect::<Vec<_>>(), [16, 17, 18]);
     /// # Ok::<(), tulonkasa::Refusal>(())
     /// ```
+    ///
+    /// # Errors
+    ///
+    /// [`Refusal::Tile`] or [`Refusal::ModeOrLane`].
     pub fn reach(&self) -> Result<AddressMap, Refusal> {
         let mut map = AddressMap::default();
         slices::reach(self, &mut map.0)?;
@@ -150,6 +170,10 @@ impl Tile {
     /// assert_eq!(Tile { fmt: 2, ..tile }.decode_linear(&source, 4), Err(Refusal::Pair));
     /// # Ok::<(), Refusal>(())
     /// ```
+    ///
+    /// # Errors
+    ///
+    /// [`Refusal::Tile`], [`Refusal::Load`] (the stride, or a source of more than 65,536 bytes) or [`Refusal::Pair`].
     pub fn decode_linear(&self, source: &[u8], stride: u32) -> Result<Vec<u8>, Refusal> {
         // A side past the limit is refused, whatever is lent.
         let texels = self.width.min(SIDE_MOST) as usize * self.height.min(SIDE_MOST) as usize;

@@ -24,7 +24,8 @@ impl Default for Written {
     }
 }
 
-/// The numbers of the last load and of the written addresses.
+/// The number of the last load, and those at the written addresses.
+#[allow(clippy::missing_fields_in_debug, reason = "the bytes are those numbers")]
 impl fmt::Debug for Written {
     fn fmt(&self, f: &mut fmt::Formatter<'_>) -> fmt::Result {
         let numbers: BTreeMap<_, _> = self.addresses().map(|address| (address, self.number_at(address))).collect();
@@ -33,7 +34,31 @@ impl fmt::Debug for Written {
 }
 
 impl Written {
+    /// The record of its bytes, two an address and high byte first, and the number of the last load: what a C program keeps, or what
+    /// [`Written::into_parts`] gave. Nothing is asked of the two, nor that they fit together.
+    ///
+    /// ```
+    /// use tulonkasa::Written;
+    ///
+    /// let mut bytes = [0; 8192];
+    /// bytes[2 * 9 + 1] = 3;
+    /// let written = Written::from_parts(bytes, 4);
+    /// assert_eq!((written.number_at(9), written.last()), (3, 4));
+    /// assert_eq!(written.into_parts(), (bytes, 4));
+    /// ```
+    #[must_use]
+    pub fn from_parts(bytes: [u8; WRITTEN_BYTES], last: u32) -> Self {
+        Self { bytes, last }
+    }
+
+    /// Its bytes, and the number of the last load.
+    #[must_use]
+    pub fn into_parts(self) -> ([u8; WRITTEN_BYTES], u32) {
+        (self.bytes, self.last)
+    }
+
     /// The number of the last load; 0 if there was none. It is also how many loads there were.
+    #[must_use]
     pub fn last(&self) -> u32 {
         self.last
     }
@@ -51,6 +76,7 @@ impl Written {
     /// assert_eq!(bank.written().last(), 2);
     /// # Ok::<(), tulonkasa::Refusal>(())
     /// ```
+    #[must_use]
     pub fn number_at(&self, address: usize) -> u32 {
         if address < BANK_BYTES {
             u16::from_be_bytes([self.bytes[2 * address], self.bytes[2 * address + 1]]).into()
@@ -60,6 +86,7 @@ impl Written {
     }
 
     /// Whether a load stored at an address.
+    #[must_use]
     pub fn is_written(&self, address: usize) -> bool {
         self.number_at(address) != 0
     }
@@ -86,11 +113,13 @@ impl Written {
     /// assert_eq!(BTreeSet::from_iter(numbers), BTreeSet::from([0, 1, 2]));
     /// # Ok::<(), tulonkasa::Refusal>(())
     /// ```
+    #[must_use]
     pub fn numbers_of(&self, trail: &[u16]) -> Vec<u32> {
         trail.iter().map(|&address| self.number_at(address.into())).collect()
     }
 
     /// The record as C programs have it: two bytes an address, high byte first.
+    #[must_use]
     pub fn bytes(&self) -> &[u8; WRITTEN_BYTES] {
         &self.bytes
     }

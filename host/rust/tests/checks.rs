@@ -1,5 +1,6 @@
 //! The check of an offered key: what is said of every byte, the lowest wrong one, keys from before the cut to what is visible, and each
 //! refusal.
+#![allow(clippy::cast_possible_truncation, reason = "the numbers of these tests fit, or are cut to bytes on purpose")]
 use tulonkasa::{ffi, slices, Bank, Checked, Refusal, Tile, BANK_BYTES, SIDE_MOST};
 
 /// Two rows of eight bytes, of which the second has its halves swapped, and so many others.
@@ -108,10 +109,10 @@ fn a_key_of_the_whole_wall_is_left_over() {
         let first = 1 << masks;
         assert_eq!(bank.check_key(&wall, 0, &whole), Ok(Checked::LeftOver { address: first }));
         // Where the bank has nothing but zeros there, it is the same key.
-        let mut blank = Bank::new();
-        blank.bytes_mut()[..first.into()].fill(9);
-        let whole = blank.key(&Tile { masks: 0, ..wall }, 0).unwrap().bytes;
-        assert_eq!(blank.check_key(&wall, 0, &whole), Ok(Checked::Right));
+        let mut zeros_behind = Bank::new();
+        zeros_behind.bytes_mut()[..first.into()].fill(9);
+        let whole = zeros_behind.key(&Tile { masks: 0, ..wall }, 0).unwrap().bytes;
+        assert_eq!(zeros_behind.check_key(&wall, 0, &whole), Ok(Checked::Right));
     }
 }
 

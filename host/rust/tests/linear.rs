@@ -1,5 +1,6 @@
 //! What goes in comes out: pictures drawn in every format, decoded straight from their source, and loaded into banks full of other bytes
 //! and sampled there. And what the decoding of a source takes, refuses, answers and leaves.
+#![allow(clippy::cast_possible_truncation, reason = "the numbers of these tests fit, or are cut to bytes on purpose")]
 use tulonkasa::{ffi, slices, Bank, Refusal, Tile, BANK_BYTES, SIDE_MOST};
 
 /// Every pair of format and size that has a linear reading.
@@ -72,7 +73,7 @@ fn shown(tile: &Tile, number: u32) -> [u8; 4] {
         (0, 2) => [five(11), five(6), five(1), opaque],
         (0, 3) => number.to_be_bytes(),
         (2, 0) => [16 * tile.palette as u8 + low; 4],
-        (2, 1) | (4, 1) => [low; 4],
+        (2 | 4, 1) => [low; 4],
         (2, 2) => [high, low, high, low],
         (3, 0) => {
             let three = low >> 1;

@@ -1,4 +1,5 @@
 //! The two palette loads: what each takes, where both store alike and where not, and the replay's pick between them.
+#![allow(clippy::cast_possible_truncation, reason = "the numbers of these tests fit, or are cut to bytes on purpose")]
 use tulonkasa::{Bank, Loaded, Refusal, Tile};
 
 /// Image size, count, rows and stride.

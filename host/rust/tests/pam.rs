@@ -1,5 +1,6 @@
 //! Pictures as files, through the Rust calls: what is taken, each refusal, the buffers that are lent, and the way there and back.
 //! The table of all cases is oracle/pam/src/cases.rs.
+#![allow(clippy::cast_possible_truncation, reason = "the numbers of these tests fit, or are cut to bytes on purpose")]
 use tulonkasa::{slices, Bank, Picture, Refusal, Tile, SIDE_MOST};
 
 /// A file as the writer spells it. The others are this one with something changed.
@@ -109,8 +110,8 @@ fn pictures_are_written_or_refused() {
 fn what_was_written_is_read() {
     // The largest picture is in sides.rs.
     let sides = [1, 2, 9, 10, 99, 100, 256, 1023, 1024, SIDE_MOST - 1, SIDE_MOST];
-    let sizes = sides.into_iter().flat_map(|width| sides.map(|height| (width, height)));
-    for (width, height) in sizes.filter(|(width, height)| width * height <= 1 << 20) {
+    let pictures = sides.into_iter().flat_map(|width| sides.map(|height| (width, height)));
+    for (width, height) in pictures.filter(|(width, height)| width * height <= 1 << 20) {
         let texels = (0..4 * width * height).map(|place| (place.wrapping_mul(2_654_435_761) >> 24) as u8).collect();
         let picture = Picture { width, height, texels };
         let file = picture.to_pam().unwrap();

@@ -1,4 +1,5 @@
 //! Rejected loads: the reasons that loads leave and take away, and the question whether a tile touches one.
+#![allow(clippy::cast_possible_truncation, reason = "the numbers of these tests fit, or are cut to bytes on purpose")]
 mod memory;
 
 use memory::{record, Memory, LOADS, STORED, WORD};
@@ -102,7 +103,7 @@ fn the_first_refusal_in_order_is_answered() {
                 let before = memory.clone();
                 let tile = Tile { fmt: if is_bad(1) { 8 } else { 0 }, ..WORD };
                 let source = vec![7; if is_bad(2) { 65537 } else { 8 }];
-                let reason = if is_bad(3) { 0 } else { 1 };
+                let reason = u32::from(!is_bad(3));
                 let passed = if is_bad(4) { 65535 } else { 6 };
                 let mut last = passed;
                 let answer = load(&mut memory, &source, &tile, Some(reason), &mut last);

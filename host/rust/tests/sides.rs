@@ -1,5 +1,6 @@
 //! The longest sides, document 02's item 12: each call takes 4,096 and refuses 4,097; pictures of 4,096 by 4,096 with and without their
 //! trail, in buffers of 64 and 128 MiB that are lent; their keys; and files of them there and back.
+#![allow(clippy::cast_possible_truncation, reason = "the numbers of these tests fit, or are cut to bytes on purpose")]
 use tulonkasa::{slices, Bank, Picture, Refusal, Tile, BANK_BYTES, LOOKUP_TEXELS, REASON_BYTES, SIDE_MOST, WRITTEN_BYTES};
 
 /// The texels of the largest picture.

@@ -1,4 +1,5 @@
 //! The split through the Rust calls: sides and totals, what is told apart and what is not, each refusal, and the buffers that are lent.
+#![allow(clippy::cast_possible_truncation, reason = "the numbers of these tests fit, or are cut to bytes on purpose")]
 use tulonkasa::{slices, split, Bank, Entry, Refusal, Side, Tile, Totals, ENTRIES_MOST, ENTRY_BYTES};
 
 /// What was in a buffer before a call.

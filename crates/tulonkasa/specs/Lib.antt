@@ -1,0 +1,2 @@
+-- What the contract of the version cites.
+pub mod Version
