@@ -92,6 +92,10 @@ class Header(unittest.TestCase):
         self.assertIn("#define TK_PAM_HEADER_MOST (63 + 2 * 10)", plain_header())
         self.assertEqual(sizes.PAM_HEADER_MOST, 63 + 2 * 10)
 
+    def test_version(self):
+        numbers = re.findall(r"^#define TK_VERSION_(?:MAJOR|MINOR|PATCH) (\d+)", plain_header(), re.M)
+        self.assertEqual(tulonkasa.version(), tuple(map(int, numbers)))
+
 
 class Reached(unittest.TestCase):
     def test_every_export_is_called_by_the_package(self):
@@ -131,6 +135,7 @@ class Reached(unittest.TestCase):
         INTENSITY.decode_linear(b"", 0)
         Picture.from_pam(Picture(1, 1, bytes(4)).to_pam())
         tulonkasa.split([Entry.of(0, key)])
+        tulonkasa.version()
 
 
 class Numbers(unittest.TestCase):

@@ -44,6 +44,7 @@ The names to begin with:
     Entry, split, Side, check     captures on two sides, tuning and held out; keys that a partner made
     replay, ReplayRecord          a capture's loads over one bank
     Refused, Torn                 why not
+    version                       of the library
 
 The module `tulonkasa.exports` has the library's exports as they are, and `tulonkasa.library` finds `libtulonkasa.so`.
 """
@@ -55,6 +56,7 @@ from tulonkasa.library import LibraryMissing
 from tulonkasa.marks import Marks
 from tulonkasa.picture import Picture
 from tulonkasa.refusal import WORDS, Refused, Torn
+from tulonkasa.release import version
 from tulonkasa.replaying import KINDS, Replayed, ReplayRecord, replay
 from tulonkasa.sizes import (
     BANK_BYTES,
@@ -116,4 +118,5 @@ __all__ = [
     "read_entries",
     "replay",
     "split",
+    "version",
 ]

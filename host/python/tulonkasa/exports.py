@@ -73,7 +73,7 @@ class Export(Generic[T]):
         return function
 
 
-REFUSAL = cast("Callable[..., int]", ctypes.c_uint32)
+NUMBER = cast("Callable[..., int]", ctypes.c_uint32)
 TILE = numbers(
     "fmt", "siz", "palette", "mode", "cms", "cmt", "masks", "maskt", "line", "tmem_addr", "width", "height"
 )
@@ -88,6 +88,7 @@ SHOWN = (Read("bank"), *TILE, Number("lane"))
 PICTURE = Write("picture")
 OBSERVED = (*SHOWN, PICTURE, Write("trail"))
 
+tk_version = Export("tk_version", NUMBER)
 tk_load_block = Export("tk_load_block", LoadAnswer, *BLOCK, *LAST)
 tk_load_tile = Export("tk_load_tile", LoadAnswer, *ROWS, *LAST)
 tk_load_tlut_hardware = Export("tk_load_tlut_hardware", LoadAnswer, *TLUT, *LAST)
@@ -107,9 +108,9 @@ tk_decode_linear = Export(
 )
 tk_write_pam = Export("tk_write_pam", Answer, *numbers("width", "height"), Read("picture"), Write("file"))
 tk_read_pam = Export("tk_read_pam", SizeAnswer, Read("file"), PICTURE)
-tk_reach = Export("tk_reach", REFUSAL, *TILE, Write("map"))
+tk_reach = Export("tk_reach", NUMBER, *TILE, Write("map"))
 tk_tile_has_load = Export("tk_tile_has_load", YesAnswer, *TILE, Read("written"))
-tk_palette_nonreplicated = Export("tk_palette_nonreplicated", REFUSAL, Read("bank"), Write("map"))
+tk_palette_nonreplicated = Export("tk_palette_nonreplicated", NUMBER, Read("bank"), Write("map"))
 tk_key = Export("tk_key", Answer, *SHOWN, Write("key"))
 tk_check_key = Export("tk_check_key", CheckAnswer, *SHOWN, Read("offer"))
 tk_replay_record = Export(
