@@ -2,6 +2,7 @@
 # gate (.ci/run, .ci/host) tests the archive that it makes itself.
 #   TULONKASA_PRODUCT        the archive, x86-64 code       (target/staticlib/libtulonkasa.a)
 #   TULONKASA_ARCHIVE        the archive for this processor (the same; see host/archive for another processor's)
+#   TULONKASA_SHARED         the shared library made of it  (beside it, libtulonkasa.so)
 #   TULONKASA_ORACLE_SOURCE  the original Rust's directory  (shared/docs/src beside the repository)
 root=$(cd "$(dirname "${BASH_SOURCE[0]}")/.." && pwd)
 TULONKASA_PRODUCT=$(realpath -m "${TULONKASA_PRODUCT:-$root/target/staticlib/libtulonkasa.a}")
@@ -12,10 +13,11 @@ else
     TULONKASA_ARCHIVE=${TULONKASA_ARCHIVE:-$root/target/staticlib/$machine/libtulonkasa.a}
 fi
 TULONKASA_ARCHIVE=$(realpath -m "$TULONKASA_ARCHIVE")
+TULONKASA_SHARED=$(realpath -m "${TULONKASA_SHARED:-${TULONKASA_ARCHIVE%.a}.so}")
 TULONKASA_ORACLE_SOURCE=$(realpath -m "${TULONKASA_ORACLE_SOURCE:-$root/../shared/docs/src}")
 CARGO_TARGET_DIR=${CARGO_TARGET_DIR:-$root/target/cargo}
 CARGO_NET_OFFLINE=true
-export TULONKASA_PRODUCT TULONKASA_ARCHIVE TULONKASA_ORACLE_SOURCE CARGO_TARGET_DIR CARGO_NET_OFFLINE
+export TULONKASA_PRODUCT TULONKASA_ARCHIVE TULONKASA_SHARED TULONKASA_ORACLE_SOURCE CARGO_TARGET_DIR CARGO_NET_OFFLINE
 
 # need_archive: ends the script where the archive is missing.
 need_archive() {
@@ -23,6 +25,20 @@ need_archive() {
         echo "$TULONKASA_ARCHIVE is missing: make it with host/archive, or name it by TULONKASA_ARCHIVE." >&2
         exit 2
     fi
+}
+
+# need_shared: ends the script where the shared library is missing.
+need_shared() {
+    if [ ! -f "$TULONKASA_SHARED" ]; then
+        echo "$TULONKASA_SHARED is missing: make it with host/archive, or name it by TULONKASA_SHARED." >&2
+        exit 2
+    fi
+}
+
+# make_shared ARCHIVE SHARED: links the whole archive as a shared library. Its code does not depend on where it is loaded, and of its
+# names only the exports are global, so that the library shows those and nothing else.
+make_shared() {
+    gcc -shared -o "$2" -Wl,-soname,"$(basename "$2").1" -Wl,-z,defs,-z,now -Wl,--whole-archive "$1" -Wl,--no-whole-archive
 }
 
 # has_original: whether the original's source is there.

@@ -1,0 +1,72 @@
+"""Reads inputs that are pieces of one length, one behind the other: captures, replays, entries, banks."""
+
+from __future__ import annotations
+
+import contextlib
+import io
+import os
+import sys
+from typing import TYPE_CHECKING, BinaryIO, Iterator, Union
+
+from tulonkasa.refusal import Torn
+
+if TYPE_CHECKING:
+    from _typeshed import ReadableBuffer, SupportsRead
+
+    Source = Union[str, "os.PathLike[str]", "SupportsRead[bytes]", ReadableBuffer]
+
+STANDARD_INPUT = "-"
+
+
+def is_path(source: object) -> bool:
+    """Whether a source is the name of a file."""
+    return isinstance(source, (str, os.PathLike)) and source != STANDARD_INPUT
+
+
+@contextlib.contextmanager
+def opened(source: Source) -> Iterator[BinaryIO]:
+    """The source as a file to read: a path is opened and closed again; `-` is standard input; a file is taken as it is; and bytes, or
+    anything with the buffer protocol, are the file's own bytes."""
+    if is_path(source):
+        with open(source, "rb") as file:  # type: ignore[arg-type]
+            yield file
+    elif source == STANDARD_INPUT:
+        yield sys.stdin.buffer
+    elif hasattr(source, "read"):
+        yield source  # type: ignore[misc]
+    else:
+        yield io.BytesIO(memoryview(source))  # type: ignore[arg-type]
+
+
+def name_of(source: Source) -> str:
+    """What to call the source in a message."""
+    if is_path(source):
+        return os.fspath(source)  # type: ignore[arg-type, return-value]
+    if source == STANDARD_INPUT:
+        return "standard input"
+    name = getattr(source, "name", None)
+    return name if isinstance(name, str) else "the input"
+
+
+def whole_or_rest(file: BinaryIO, length: int) -> bytes:
+    """So many bytes of a file, or fewer where it ends. A pipe may give them piece by piece."""
+    data = file.read(length)
+    if isinstance(data, str):
+        raise TypeError("the file gives text; open it in binary mode")
+    while data is None or 0 < len(data) < length:
+        more = file.read(length - len(data or b""))
+        if not more:
+            break
+        data = (data or b"") + more
+    return data or b""
+
+
+def pieces(source: Source, length: int) -> Iterator[bytes]:
+    """The pieces of a source, in order. Where it ends inside one, `Torn` is raised after the whole ones."""
+    with opened(source) as file:
+        number = 0
+        while piece := whole_or_rest(file, length):
+            if len(piece) < length:
+                raise Torn(name_of(source), number, len(piece), length)
+            yield piece
+            number += 1
