@@ -305,6 +305,8 @@ def capture():
     """The records of a capture. The bank goes on from one to the next, so that each has the leftovers of those before it."""
     game = make.Capture(20020)
     for drawn in scenes():
+        for _ in range(4):
+            game.clutter()
         game.picture(drawn.halves, drawn.entries, **drawn.fields)
     return b"".join(game.records)
 
