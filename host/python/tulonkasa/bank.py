@@ -8,7 +8,8 @@ from dataclasses import dataclass
 from typing import TYPE_CHECKING
 
 from tulonkasa import exports
-from tulonkasa.exports import Answer, Export, LoadAnswer
+from tulonkasa.answers import Answer, LoadAnswer
+from tulonkasa.exports import Export
 from tulonkasa.key import Checked, Key, checked, cut
 from tulonkasa.marks import Marks
 from tulonkasa.picture import Picture

@@ -1,8 +1,8 @@
 """The library's exports as they are, for callers that lend their own buffers.
 
 `include/tulonkasa.h` says what each takes, refuses, answers and leaves. Here a buffer is one argument, and its length is added: anything
-with the buffer protocol where it is read, and something that can be written, such as a `bytearray`, where it is. Buffers of one call must
-not overlap. Numbers are handed on as they are; one that does not fit its C type raises `OverflowError`. Nothing is raised for a refusal:
+with the buffer protocol where it is read, and something that can be written, such as a `bytearray`, where it is. Buffers that one call
+writes must not overlap. Numbers are handed on as they are; one that does not fit its C type raises `OverflowError`. Nothing is raised for a refusal:
 the answer has its number, 0 for none.
 
 >>> from tulonkasa import exports, Tile
@@ -15,159 +15,21 @@ the answer has its number, 0 for none.
 from __future__ import annotations
 
 import ctypes
-import operator
-from typing import TYPE_CHECKING, Any, Callable, Generic, NamedTuple, TypeVar, Union, cast
+from typing import Any, Callable, Generic, TypeVar, cast
 
 from tulonkasa import library
-
-if TYPE_CHECKING:
-    from _typeshed import ReadableBuffer, WriteableBuffer
-
-
-class Number(NamedTuple):
-    """A parameter that is a number of so many bits, from 0 on."""
-
-    name: str
-    bits: int = 32
-
-    @property
-    def types(self) -> list[Any]:
-        """Its type in C."""
-        return [ctypes.c_uint64 if self.bits == 64 else ctypes.c_uint32]
-
-    def hand(self, argument: object) -> list[Any]:
-        """The argument as C gets it. This is where a number that C would cut short is stopped."""
-        number = operator.index(cast(int, argument))
-        if number >> self.bits:
-            raise OverflowError(f"{self.name} is {number}: a number from 0 to {(1 << self.bits) - 1:,} is due")
-        return [number]
-
-
-class Read(NamedTuple):
-    """A parameter that is a buffer which is read. In C it is a pointer and a length."""
-
-    name: str
-    types = [ctypes.c_void_p, ctypes.c_size_t]
-
-    def hand(self, argument: object) -> list[Any]:
-        """The argument as C gets it. It is copied where it is not `bytes` and can't be written, or has gaps."""
-        if not isinstance(argument, bytes):
-            view = memoryview(cast("ReadableBuffer", argument))
-            if not view.readonly and view.c_contiguous:
-                return lent(view)
-            argument = view.tobytes()
-        return [argument, len(argument)]
-
-
-class Write(NamedTuple):
-    """A parameter that is a buffer which is written. In C it is a pointer and a length."""
-
-    name: str
-    types = [ctypes.c_void_p, ctypes.c_size_t]
-
-    def hand(self, argument: object) -> list[Any]:
-        """The argument as C gets it: no copy, since the library writes there."""
-        return lent(memoryview(cast("WriteableBuffer", argument)))
-
-
-def lent(view: memoryview) -> list[Any]:
-    """The place and the length of bytes that can be written."""
-    return [ctypes.byref(ctypes.c_char.from_buffer(view)) if view.nbytes else None, view.nbytes]
-
-
-Parameter = Union[Number, Read, Write]
-
-
-def numbers(*names: str) -> tuple[Parameter, ...]:
-    """Parameters that are numbers of 32 bits."""
-    return tuple(Number(name) for name in names)
-
-
-def fields(*names: str) -> list[tuple[str, type[ctypes.c_uint32]]]:
-    """The fields of an answer, all of them numbers of 32 bits."""
-    return [(name, ctypes.c_uint32) for name in names]
-
-
-class Answer(ctypes.Structure):
-    """A refusal, and a count of reads, kept bytes or a file's bytes."""
-
-    refusal: int
-    count: int
-    _fields_ = fields("refusal", "count")
-
-
-class LoadAnswer(ctypes.Structure):
-    """A refusal, a load's stores, how many of their bytes were made up, and the number of the last load after it."""
-
-    refusal: int
-    count: int
-    made_up: int
-    number: int
-    _fields_ = fields("refusal", "count", "made_up", "number")
-
-
-class ReplayAnswer(ctypes.Structure):
-    """A refusal, a record's stores or kept bytes, and the number of the last load after it."""
-
-    refusal: int
-    count: int
-    number: int
-    _fields_ = fields("refusal", "count", "number")
-
-
-class SamplingAnswer(ctypes.Structure):
-    """A refusal, the sampling flag, and the texels to allocate."""
-
-    refusal: int
-    flag: int
-    width: int
-    height: int
-    _fields_ = fields("refusal", "flag", "width", "height")
-
-
-class SizeAnswer(ctypes.Structure):
-    """A refusal, and the size of a picture that was read."""
-
-    refusal: int
-    width: int
-    height: int
-    _fields_ = fields("refusal", "width", "height")
-
-
-class YesAnswer(ctypes.Structure):
-    """A refusal, and 1 for yes or 0 for no."""
-
-    refusal: int
-    yes: int
-    _fields_ = fields("refusal", "yes")
-
-
-class ReasonAnswer(ctypes.Structure):
-    """A refusal, and the reason of a rejected load, 0 for none."""
-
-    refusal: int
-    reason: int
-    _fields_ = fields("refusal", "reason")
-
-
-class CheckAnswer(ctypes.Structure):
-    """A refusal; 1 if an offered key is right, else 0; the lowest wrong address, and what is wrong there."""
-
-    refusal: int
-    yes: int
-    address: int
-    wrong: int
-    _fields_ = fields("refusal", "yes", "address", "wrong")
-
-
-class SplitAnswer(ctypes.Structure):
-    """A refusal, and how many entries are on each side."""
-
-    refusal: int
-    tuning: int
-    held_out: int
-    _fields_ = fields("refusal", "tuning", "held_out")
-
+from tulonkasa.answers import (
+    Answer,
+    CheckAnswer,
+    LoadAnswer,
+    ReasonAnswer,
+    ReplayAnswer,
+    SamplingAnswer,
+    SizeAnswer,
+    SplitAnswer,
+    YesAnswer,
+)
+from tulonkasa.parameters import Number, Parameter, Read, Write, numbers
 
 T = TypeVar("T")
 
@@ -211,6 +73,7 @@ class Export(Generic[T]):
         return function
 
 
+REFUSAL = cast("Callable[..., int]", ctypes.c_uint32)
 TILE = numbers(
     "fmt", "siz", "palette", "mode", "cms", "cmt", "masks", "maskt", "line", "tmem_addr", "width", "height"
 )
@@ -244,11 +107,9 @@ tk_decode_linear = Export(
 )
 tk_write_pam = Export("tk_write_pam", Answer, *numbers("width", "height"), Read("picture"), Write("file"))
 tk_read_pam = Export("tk_read_pam", SizeAnswer, Read("file"), PICTURE)
-tk_reach = Export("tk_reach", cast("Callable[..., int]", ctypes.c_uint32), *TILE, Write("map"))
+tk_reach = Export("tk_reach", REFUSAL, *TILE, Write("map"))
 tk_tile_has_load = Export("tk_tile_has_load", YesAnswer, *TILE, Read("written"))
-tk_palette_nonreplicated = Export(
-    "tk_palette_nonreplicated", cast("Callable[..., int]", ctypes.c_uint32), Read("bank"), Write("map")
-)
+tk_palette_nonreplicated = Export("tk_palette_nonreplicated", REFUSAL, Read("bank"), Write("map"))
 tk_key = Export("tk_key", Answer, *SHOWN, Write("key"))
 tk_check_key = Export("tk_check_key", CheckAnswer, *SHOWN, Read("offer"))
 tk_replay_record = Export(

@@ -2,7 +2,7 @@
 
 from __future__ import annotations
 
-from collections.abc import Iterator, Set
+from collections.abc import Iterable, Iterator, Set
 
 
 class Marks(Set[int]):
@@ -23,9 +23,9 @@ class Marks(Set[int]):
         self._length = len(data)
 
     @classmethod
-    def _from_iterable(cls, numbers: object) -> frozenset[int]:  # type: ignore[override]
+    def _from_iterable(cls, it: Iterable[int]) -> Set[int]:
         """What the operators of a set make: a plain one."""
-        return frozenset(numbers)  # type: ignore[call-overload, no-any-return]
+        return frozenset(it)
 
     def __contains__(self, number: object) -> bool:
         return isinstance(number, int) and number >= 0 and bool(self._bits >> number & 1)

@@ -6,7 +6,7 @@ import contextlib
 import io
 import os
 import sys
-from typing import TYPE_CHECKING, BinaryIO, Iterator, Union
+from typing import TYPE_CHECKING, BinaryIO, Iterator, Union, cast
 
 from tulonkasa.refusal import Torn
 
@@ -28,20 +28,20 @@ def opened(source: Source) -> Iterator[BinaryIO]:
     """The source as a file to read: a path is opened and closed again; `-` is standard input; a file is taken as it is; and bytes, or
     anything with the buffer protocol, are the file's own bytes."""
     if is_path(source):
-        with open(source, "rb") as file:  # type: ignore[arg-type]
+        with open(cast(str, source), "rb") as file:
             yield file
     elif source == STANDARD_INPUT:
         yield sys.stdin.buffer
     elif hasattr(source, "read"):
-        yield source  # type: ignore[misc]
+        yield cast(BinaryIO, source)
     else:
-        yield io.BytesIO(memoryview(source))  # type: ignore[arg-type]
+        yield io.BytesIO(memoryview(cast("ReadableBuffer", source)))
 
 
 def name_of(source: Source) -> str:
     """What to call the source in a message."""
     if is_path(source):
-        return os.fspath(source)  # type: ignore[arg-type, return-value]
+        return os.fspath(cast(str, source))
     if source == STANDARD_INPUT:
         return "standard input"
     name = getattr(source, "name", None)

@@ -55,8 +55,8 @@ class ReplayRecord:
         data = bytes(memoryview(data))
         if len(data) != RECORD_BYTES:
             raise ValueError(f"a record of a replay has {RECORD_BYTES} bytes, and these are {len(data):,}")
-        tile = Tile.from_bytes(data[TILE_AT:LOAD_AT])
-        return cls(*HEAD.unpack_from(data), tile, *LOAD.unpack_from(data, LOAD_AT))
+        kind, lane = HEAD.unpack_from(data)
+        return cls(kind, lane, Tile.from_bytes(data[TILE_AT:LOAD_AT]), *LOAD.unpack_from(data, LOAD_AT))
 
     def __bytes__(self) -> bytes:
         """The 48 bytes of this record. A number that does not fit its bytes raises `OverflowError`, or is the tile's, refused by 2."""

@@ -10,6 +10,7 @@ from typing import TYPE_CHECKING, Iterable, Iterator
 from tulonkasa import exports
 from tulonkasa.bank import Bank
 from tulonkasa.key import BODY_BYTES, Checked, Key
+from tulonkasa.parameters import Number
 from tulonkasa.pieces import pieces
 from tulonkasa.refusal import refuse
 from tulonkasa.sizes import BANK_BYTES, ENTRIES_MOST, ENTRY_BYTES, TILE_BYTES
@@ -23,6 +24,7 @@ if TYPE_CHECKING:
 BODY_AT = ENTRY_BYTES - BODY_BYTES
 LANE_AT = BODY_AT + TILE_BYTES
 KEY_AT = LANE_AT + 1
+CAPTURE = Number("capture")
 
 
 class Entry:
@@ -48,7 +50,8 @@ class Entry:
     @classmethod
     def of(cls, capture: int, key: Key) -> Entry:
         """The entry of a capture's number, of 32 bits, and its key."""
-        return cls(exports.Number("capture").hand(capture)[0].to_bytes(BODY_AT, "big") + key.body)
+        (number,) = CAPTURE.hand(capture)
+        return cls(number.to_bytes(BODY_AT, "big") + key.body)
 
     @property
     def capture(self) -> int:
@@ -79,7 +82,9 @@ class Entry:
         return self.bytes
 
     def __eq__(self, other: object) -> bool:
-        return self.bytes == other.bytes if isinstance(other, Entry) else NotImplemented
+        if not isinstance(other, Entry):
+            return NotImplemented
+        return self.bytes == other.bytes
 
     def __hash__(self) -> int:
         return hash(self.bytes)
