@@ -7,10 +7,14 @@
 from __future__ import annotations
 
 import argparse
+import io
 import os
+import shutil
 import signal
 import sys
+import textwrap
 from collections.abc import Sequence
+from typing import Any
 
 from tulonkasa import LibraryMissing, library
 from tulonkasa.command import check, diff, dump, find, groups, keys, reads, replay, sheet, split
@@ -22,34 +26,41 @@ COMMANDS = (keys, groups, sheet, dump, find, diff, reads, split, check, replay)
 ABOUT = """\
 Files the pictures of a capture under the bytes that making them reads, so that captures which differ only in leftover bytes have one key.
 
-A capture is a file of records of 4,112 bytes: a tile record of 16, and the texture memory of 4,096 (host/README.md). `-` stands for
-standard input. Tables have a line that names the columns, and tabs between them."""
+A capture is a file of records of 4,112 bytes: a tile record of 16, and the texture memory of 4,096. `-` stands for standard input. Tables
+have a line that names the columns, and tabs between them."""
 EXAMPLES = """\
-examples:
-  tulonkasa sheet samples/drawn.bin sheet.html     every picture of a capture on one page
-  tulonkasa groups samples/drawn.bin               which captures share a key
-  tulonkasa dump samples/drawn.bin pictures        a file a picture, for the painters
-  tulonkasa find pictures samples/drawn.bin        which painted file belongs to each record
-  tulonkasa keys --help                            more about a command, with examples"""
+  tulonkasa sheet samples/drawn.bin sheet.html   every picture, on one page
+  tulonkasa groups samples/drawn.bin             which captures share a key
+  tulonkasa dump samples/drawn.bin pictures      a file a picture, for painters
+  tulonkasa find pictures samples/drawn.bin      the painted file of each record
+  tulonkasa keys --help                          more about a command"""
 EXITS = """\
-exit codes:
   0  done
   1  done, and something was refused or differs
-  2  bad use: a file is missing, torn or can't be written, or the arguments are wrong"""
+  2  bad use: a file is missing, torn or can't be written, or a word is wrong"""
 
 
 def parser() -> argparse.ArgumentParser:
     """What the command takes."""
-    layout = argparse.RawDescriptionHelpFormatter
-    whole = argparse.ArgumentParser(prog=NAME, description=ABOUT, epilog=f"{EXAMPLES}\n\n{EXITS}", formatter_class=layout)
+    whole = argparse.ArgumentParser(prog=NAME, **laid_out(ABOUT, EXAMPLES))
     parts = whole.add_subparsers(metavar="COMMAND", required=True, title="commands")
     for command in COMMANDS:
         name = command.__name__.rpartition(".")[2]
-        shown = f"examples:\n{command.EXAMPLES}\n\n{EXITS}"
-        part = parts.add_parser(name, help=command.HELP, description=command.__doc__, epilog=shown, formatter_class=layout)
+        part = parts.add_parser(name, help=command.HELP, **laid_out(command.__doc__ or "", command.EXAMPLES))
         command.arguments(part)
         part.set_defaults(run=command.run, name=name)
     return whole
+
+
+def laid_out(about: str, examples: str) -> dict[str, Any]:
+    """How a help is laid out: what it is about, as wide as the terminal, and the examples as they are. So are indented lines."""
+    width = min(shutil.get_terminal_size().columns - 2, 100)
+    parts = [part if part.startswith(" ") else textwrap.fill(part, width) for part in about.split("\n\n")]
+    return dict(
+        description="\n\n".join(parts),
+        epilog=f"examples:\n{examples}\n\nexit codes:\n{EXITS}",
+        formatter_class=argparse.RawDescriptionHelpFormatter,
+    )
 
 
 def main(arguments: Sequence[str] | None = None) -> int:
@@ -84,6 +95,8 @@ def leave_output() -> None:
 
 
 def run() -> None:
-    """The command as a program. A reader that goes away, as `head` does, ends it quietly."""
+    """The command as a program. A reader that goes away, as `head` does, ends it quietly. Names of files are printed as they are."""
     signal.signal(signal.SIGPIPE, signal.SIG_DFL)
+    if isinstance(sys.stdout, io.TextIOWrapper):
+        sys.stdout.reconfigure(errors="surrogateescape")
     sys.exit(main())

@@ -1,5 +1,5 @@
-"""Checks keys that were made elsewhere, and prints a line for each: its number, its capture number, and what is said of the key: right; or the
-lowest wrong address, and whether that byte is missing, left over or has another value; or why the entry is refused.
+"""Checks keys that were made elsewhere, and prints a line for each: its number, its capture number, and what is said of the key: right; or
+the lowest wrong address, and whether that byte is missing, left over or has another value; or why the entry is refused.
 
 ENTRIES is a file of entries of 4,117 bytes: capture number, tile record, lane and key. BANKS has the bank of each, 4,096 bytes, in the same
 order. The last line has the totals."""

@@ -1,11 +1,13 @@
 """Compares the pictures of two captures, A and B, and prints a line for each that is not the same with the same bank:
 
-  gone                    A has it, and B does not
-  new                     B has it, and A does not
-  other leftover bytes    both have it, and their banks differ at the addresses of the last column, none of which it reads
-  differs                 a picture of B stands in its place: it has the same tile record, and the picture before it that both captures
-                          have is the same; their keys differ at the addresses of the last column
+  gone                  A has it, and B does not
+  new                   B has it, and A does not
+  other leftover bytes  both have it, and their banks differ at the addresses
+                        of the last column, none of which the picture reads
+  differs               a picture of B stands in its place, whose key differs
+                        at the addresses of the last column
 
+A picture stands in the place of another where both have the same tile record, and follow the same picture of those that both captures have.
 Pictures are compared by tile record and key. A picture that was captured several times has one line, and the first record that it is about.
 Refused records have a line each, which says why."""
 
@@ -24,8 +26,8 @@ from tulonkasa.command.words import range_words
 
 HELP = "which pictures of two captures are new, gone, or differ, and where"
 EXAMPLES = """\
-  tulonkasa diff monday.bin tuesday.bin
-  tulonkasa diff monday.bin tuesday.bin | grep '^new'"""
+  tulonkasa diff samples/drawn.bin samples/capture.bin
+  tulonkasa diff samples/drawn.bin samples/capture.bin | grep '^new'"""
 
 GONE, NEW, LEFTOVER, DIFFERENT = "gone", "new", "other leftover bytes", "differs"
 

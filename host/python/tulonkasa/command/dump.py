@@ -18,8 +18,8 @@ from tulonkasa.command.talk import DIFFERS, DONE, Table, say
 HELP = "a picture file for each key, for the painters"
 EXAMPLES = """\
   tulonkasa dump samples/drawn.bin pictures
-  tulonkasa dump --pam samples/drawn.bin pictures       for the Netpbm programs
-  tulonkasa find pictures samples/drawn.bin             then: which file belongs to each record"""
+  tulonkasa dump --pam samples/drawn.bin pictures   for the Netpbm programs
+  tulonkasa find pictures samples/drawn.bin         the file of each record"""
 
 KEY_SUFFIX = ".key"
 WRITTEN, THERE = "written", "there already"

@@ -18,7 +18,8 @@ from tulonkasa.command.talk import DIFFERS, DONE, Table, say
 HELP = "which painted replacement belongs to each record"
 EXAMPLES = """\
   tulonkasa find pictures samples/drawn.bin
-  tulonkasa find pictures samples/drawn.bin | awk -F '\\t' '$4 == "none"'     what is still to be painted"""
+  # what is still to be painted
+  tulonkasa find pictures samples/drawn.bin | awk -F '\\t' '$4 == "none"'"""
 
 FOUND, NONE, NO_KEY = "found", "none", "there is no key beside it"
 

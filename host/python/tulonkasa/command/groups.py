@@ -15,7 +15,8 @@ from tulonkasa.command.talk import DIFFERS, DONE, Table, counted, say
 HELP = "which captures share a key"
 EXAMPLES = """\
   tulonkasa groups samples/drawn.bin
-  tulonkasa groups samples/drawn.bin | awk -F '\\t' '$4 > 1'     the pictures that were captured more than once"""
+  # the pictures that were captured more than once
+  tulonkasa groups samples/drawn.bin | awk -F '\\t' '$4 > 1'"""
 
 
 def arguments(parser: argparse.ArgumentParser) -> None:

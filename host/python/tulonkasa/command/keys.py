@@ -14,8 +14,9 @@ from tulonkasa.command.talk import DIFFERS, DONE, Table, counted, say
 HELP = "number, digest, size and kept bytes of each record, or why it is refused"
 EXAMPLES = """\
   tulonkasa keys samples/drawn.bin
-  cat captures/*.bin | tulonkasa keys -
-  tulonkasa keys samples/drawn.bin | cut -f 2 | sort | uniq -c | sort -n      how often each picture was captured"""
+  cat samples/drawn.bin samples/capture.bin | tulonkasa keys -
+  # how often each picture was captured
+  tulonkasa keys samples/drawn.bin | cut -f 2 | sort | uniq -c | sort -n"""
 
 
 def arguments(parser: argparse.ArgumentParser) -> None:

@@ -1,8 +1,8 @@
 """Shows which bytes of the bank the visible picture of a record reads: a line for each run of addresses, and as OUT the bank as a picture
 of 64 by 64, a texel a byte, with those bytes lit. On a terminal a small drawing of it comes first.
 
-With --companion the first file is a replay: records of 48 bytes, whose sources are in the companion file. Record N of it asks for a key. Then
-the bank is as the loads before left it, and each run says which load wrote it: its number, counted from 1, and the record that it was;
+With --companion the first file is a replay: records of 48 bytes, whose sources are in the companion file. Record N of it asks for a key.
+Then the bank is as the loads before left it, and each run says which load wrote it: its number, counted from 1, and the record that it was;
 0 and nothing for bytes that no load wrote. In the picture each load has its colour."""
 
 from __future__ import annotations
@@ -25,7 +25,8 @@ HELP = "which bytes of the bank a picture reads, and which load wrote each"
 EXAMPLES = """\
   tulonkasa reads samples/drawn.bin 14
   tulonkasa reads samples/drawn.bin 14 bank.png
-  tulonkasa reads samples/drawn-replay.bin 17 bank.png --companion samples/drawn-companion.bin"""
+  tulonkasa reads samples/drawn-replay.bin 17 bank.png \\
+      --companion samples/drawn-companion.bin"""
 
 
 class Asked(NamedTuple):
@@ -39,9 +40,16 @@ class Asked(NamedTuple):
 
 def arguments(parser: argparse.ArgumentParser) -> None:
     parser.add_argument("capture", metavar="CAPTURE", help="a file of records, or - for standard input")
-    parser.add_argument("number", metavar="N", type=int, help="the record's number; the first one is 0")
-    parser.add_argument("out", metavar="OUT", nargs="?", help="the picture to write: a PAM file if its name ends in .pam, else PNG")
+    parser.add_argument("number", metavar="N", type=natural, help="the record's number; the first one is 0")
+    parser.add_argument("out", metavar="OUT", nargs="?", help="the picture to write: PAM if it ends in .pam, else PNG")
     parser.add_argument("--companion", metavar="FILE", help="the sources of a replay; CAPTURE is then its records")
+
+
+def natural(text: str) -> int:
+    """A record's number."""
+    if not text.isdecimal():
+        raise argparse.ArgumentTypeError(f"{text} is not a number from 0 on")
+    return int(text)
 
 
 def run(options: argparse.Namespace) -> int:
@@ -54,7 +62,7 @@ def run(options: argparse.Namespace) -> int:
     if options.out:
         picture = bank_picture(bytes(asked.bank), {LIT: read} if loads is None else by_load(loads))
         write_whole(options.out, picture_file(picture, options.out.endswith(".pam")))
-    if sys.stdout.isatty():
+    if sys.stdout.isatty() and sys.stdout.encoding.lower() == "utf-8":
         print(drawing(read))
     if asked.loads is None or loads is None:
         plain_table(read)
@@ -100,8 +108,8 @@ def plain_table(read: list[int]) -> None:
 def load_table(loads: Mapping[int, int], records: Mapping[int, int]) -> None:
     """A line for each run of addresses that one load wrote."""
     table = Table("first", "last", "bytes", "load", "record")
-    for number, run_ in groupby(sorted(loads), key=loads.__getitem__):
-        for first, last in ranges(run_):
+    for number, addresses in groupby(sorted(loads), key=loads.__getitem__):
+        for first, last in ranges(addresses):
             table.row(first, last, last - first + 1, number, records.get(number, ""))
 
 

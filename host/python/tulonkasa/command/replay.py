@@ -1,6 +1,6 @@
-"""Replays a capture's loads over one bank, and prints a line for each record: its number; its kind, block, tile, palette or key; the number of
-its load, counted from 1; how often the load stored a byte, or how many bytes the key keeps of the bank as it stands; or why the record
-is refused.
+"""Replays a capture's loads over one bank, and prints a line for each record: its number; its kind, block, tile, palette or key; the number
+of its load, counted from 1; how often the load stored a byte, or how many bytes the key keeps of the bank as it stands; or why the
+record is refused.
 
 RECORDS is a file of records of 48 bytes, COMPANION the file that the sources of the loads are in; include/tulonkasa.h says which byte of a
 record is what. A refused record changes nothing, and does not stop the replay."""
@@ -19,7 +19,7 @@ from tulonkasa.command.talk import DIFFERS, DONE, Table, progress
 HELP = "what each load of a replay stored, and each key kept"
 EXAMPLES = """\
   tulonkasa replay samples/drawn-replay.bin samples/drawn-companion.bin
-  zcat loads.gz | tulonkasa replay - sources.bin"""
+  tulonkasa replay - samples/drawn-companion.bin <samples/drawn-replay.bin"""
 
 
 def arguments(parser: argparse.ArgumentParser) -> None:

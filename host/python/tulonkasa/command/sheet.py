@@ -1,8 +1,8 @@
-"""Writes one page with every picture of a capture, the captures that share a key, and the refused records, to be looked at in a browser. All
-of it is in the file: it needs no network.
+"""Writes one page with every picture of a capture, the captures that share a key, and the refused records, to be looked at in a browser.
+All of it is in the file: it needs no network.
 
-A picture is shown as a renderer shows it: of a tile that repeats inside its size, the columns and rows that repeat; of a tile that calls for a
-lookup, the lookup's four rows of 4,096 texels, each folded to 64 by 64."""
+A picture is shown as a renderer shows it: of a tile that repeats inside its size, the columns and rows that repeat; of a tile that calls
+for a lookup, the lookup's four rows of 4,096 texels, each folded to 64 by 64."""
 
 from __future__ import annotations
 

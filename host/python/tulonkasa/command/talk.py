@@ -47,7 +47,7 @@ def progress(things: Iterable[Thing], total: int | None = None, nouns: str = "re
         for count, thing in enumerate(things):
             if time.monotonic() >= due:
                 of = f" of {total:,}" if total else ""
-                print(f"\r{count:,}{of} {nouns}", end="", file=sys.stderr, flush=True)
+                print(f"\r{nouns}: {count:,}{of}", end="", file=sys.stderr, flush=True)
                 due, shown = time.monotonic() + PAUSE, True
             yield thing
     finally:

@@ -1,0 +1,204 @@
+"""What goes wrong: one sentence, an exit code, and no half a file. And what a person at a terminal is told."""
+
+import contextlib
+import os
+import subprocess
+import time
+import unittest
+
+import expected
+from expected import CAPTURE, COMPANION, REPLAY
+from harness import COMMAND, CommandTest, terminal
+
+COMMANDS = ("keys", "groups", "sheet", "dump", "find", "diff", "reads", "split", "check", "replay")
+# Each command with a capture, whose name stands for CAPTURE, and what else it takes.
+WITH_CAPTURE = {
+    "keys": ["CAPTURE"],
+    "groups": ["CAPTURE"],
+    "sheet": ["CAPTURE", "sheet.html"],
+    "dump": ["CAPTURE", "pictures"],
+    "find": [".", "CAPTURE"],
+    "diff": ["CAPTURE", str(CAPTURE)],
+    "reads": ["CAPTURE", "50"],
+    "split": ["CAPTURE"],
+    "check": ["CAPTURE", str(CAPTURE)],
+    "replay": ["CAPTURE", str(COMPANION)],
+}
+
+
+class Inputs(CommandTest):
+    def each(self, name):
+        """Each command, with this name of its capture."""
+        for command, words in WITH_CAPTURE.items():
+            with self.subTest(command):
+                yield command, [name if word == "CAPTURE" else word for word in words]
+
+    def test_missing_file(self):
+        for command, words in self.each("nothing.bin"):
+            self.fails(2, "there is no file nothing.bin.", command, *words)
+            self.assertNotIn("sheet.html", self.names())
+
+    def test_folder(self):
+        (self.room / "folder").mkdir()
+        for command, words in self.each("folder"):
+            self.fails(2, "folder is a folder, and a file is needed.", command, *words)
+
+    def test_torn(self):
+        """A record and a byte of the next one; where entries or records of a replay are due, these."""
+        torn = {"check": bytes(4) + expected.body(0) + b"1", "replay": REPLAY.read_bytes()[:49]}
+        whole = {"check": "4,117", "replay": "48"}
+        for command, words in self.each("torn.bin"):
+            data = torn.get(command, expected.record(0) + b"1")
+            self.write("torn.bin", data)
+            sentence = f"ends inside record 1: 1 of its {whole.get(command, '4,112')} bytes are there."
+            self.fails(2, f"torn.bin {sentence}", command, *words)
+            words = ["-" if word == "torn.bin" else word for word in words]
+            self.fails(2, f"standard input {sentence}", command, *words, given=data)
+            self.assertNotIn("sheet.html", self.names())
+
+    def test_lines_before_the_torn_record(self):
+        ran = self.run_command("keys", "-", given=expected.record(0) + b"1")
+        self.assertEqual([row[0] for row in ran.rows], ["record", "0"])
+
+
+class Outputs(CommandTest):
+    def test_full_disk(self):
+        for command, words in WITH_CAPTURE.items():
+            given = {"check": REPLAY, "replay": REPLAY}.get(command, CAPTURE)
+            words = [str(given) if word == "CAPTURE" else word.replace("50", "0") for word in words]
+            if command == "sheet":
+                words[-1] = "-"
+            if command == "check":
+                words = [self.write("entries.bin", bytes(4) + expected.body(0)), self.write("banks.bin", expected.bank(0))]
+            with self.subTest(command), open("/dev/full", "wb") as full:
+                self.fails(2, "standard output: No space left on device.", command, *words, stdout=full)
+
+    def test_full_disk_as_a_file(self):
+        self.fails(2, "/dev/full: No space left on device.", "sheet", CAPTURE, "/dev/full")
+        self.fails(2, "/dev/full: No space left on device.", "reads", CAPTURE, 0, "/dev/full")
+        self.assertTrue(os.path.exists("/dev/full") and not os.path.isfile("/dev/full"))
+
+    def test_a_file_that_is_too_large_leaves_the_old_one(self):
+        """The page has some hundred thousand bytes, and a file may have forty thousand here."""
+        self.write("sheet.html", b"old")
+        words = ["bash", "-c", 'ulimit -f 40; trap "" XFSZ; exec "$@"', "-", str(COMMAND), "sheet", str(CAPTURE), "sheet.html"]
+        ran = subprocess.run(words, cwd=self.room, capture_output=True)
+        self.assertEqual((ran.returncode, ran.stderr), (2, b"tulonkasa sheet: sheet.html: File too large.\n"))
+        self.assertEqual((self.names(), (self.room / "sheet.html").read_bytes()), (["sheet.html"], b"old"))
+
+    def test_names_that_are_no_file(self):
+        (self.room / "folder").mkdir()
+        self.write("file", b"")
+        self.fails(2, "folder is a folder, and a file is needed.", "sheet", CAPTURE, "folder")
+        self.fails(2, "there is no file none/sheet.html.", "sheet", CAPTURE, "none/sheet.html")
+        self.fails(2, "file is not a folder.", "dump", CAPTURE, "file")
+        self.fails(2, "file is not a folder.", "find", "file", CAPTURE)
+        self.fails(2, "there is no folder none.", "find", "none", CAPTURE)
+        self.assertEqual(self.names(), ["file", "folder"])
+
+    def test_reader_that_goes_away(self):
+        words = f"set -o pipefail; yes | head -c 41120000 | {COMMAND} keys - 2>said | head -n 1 >line"
+        subprocess.run(["bash", "-c", words], cwd=self.room, check=False)
+        self.assertEqual((self.room / "line").read_bytes(), b"record\tdigest\tsize\tkept\trefusal\n")
+        self.assertEqual((self.room / "said").read_bytes(), b"")
+
+
+class Use(CommandTest):
+    def test_help(self):
+        environment = {**os.environ, "COLUMNS": "80"}
+        text = self.run_command("--help", env=environment).out.decode()
+        for command in COMMANDS:
+            self.assertRegex(text, rf"(?m)^    {command} ")
+            ran = self.run_command(command, "--help", env=environment)
+            self.assertEqual((ran.status, ran.error), (0, ""))
+            self.assertIn(f"\nexamples:\n  tulonkasa {command} ", ran.out.decode())
+            self.assertIn("\nexit codes:\n  0  done\n", ran.out.decode())
+            self.assertLess(max(map(len, ran.out.decode().splitlines())), 81, command)
+
+    def test_bad_use(self):
+        for words in ([], ["nothing"], ["keys"], ["keys", "a", "b"], ["dump", CAPTURE], ["keys", "--loud", CAPTURE]):
+            ran = self.run_command(*words)
+            self.assertEqual((ran.status, ran.out), (2, b""), words)
+            self.assertTrue(ran.error.startswith("usage: tulonkasa"), ran.error)
+
+    def test_as_a_module(self):
+        environment = {**os.environ, "PYTHONPATH": str(expected.ROOT / "host" / "python"), "PYTHONDONTWRITEBYTECODE": "1"}
+        words = ["python3", "-m", "tulonkasa", "keys", str(CAPTURE)]
+        done = subprocess.run(words, cwd=self.room, capture_output=True, env=environment)
+        self.assertEqual((done.returncode, done.stdout), (1, self.run_command("keys", CAPTURE).out))
+
+    def test_library_is_missing(self):
+        environment = {**os.environ, "TULONKASA_SHARED": str(self.room / "none.so")}
+        sentence = f"{self.room}/none.so is missing. Make it with host/archive, or name it by TULONKASA_SHARED."
+        self.assertEqual(self.fails(2, sentence, "keys", CAPTURE, env=environment).out, b"")
+
+    def test_interrupted(self):
+        """It ends with the code of an interrupt, without a word."""
+        words = [str(COMMAND), "keys", "-"]
+        done = subprocess.Popen(words, stdin=subprocess.PIPE, stdout=subprocess.PIPE, stderr=subprocess.PIPE)
+        done.stdin.write(expected.record(0))
+        done.stdin.flush()
+        time.sleep(1)
+        done.send_signal(2)
+        self.assertEqual((done.communicate()[1], done.returncode), (b"", 130))
+
+
+class Terminal(CommandTest):
+    def told(self, *words):
+        """What the command says on a terminal of two records, of which the second comes late."""
+        with terminal() as (slave, said):
+            done = subprocess.Popen([str(COMMAND), *words], stdin=subprocess.PIPE, stdout=subprocess.DEVNULL, stderr=slave, cwd=self.room)
+        with contextlib.closing(done.stdin):
+            done.stdin.write(expected.record(0))
+            done.stdin.flush()
+            time.sleep(1.5)
+            done.stdin.write(expected.record(expected.numbered("film without a palette")))
+        text = said()
+        self.assertEqual(done.wait(), 1)
+        return text
+
+    def test_progress_and_totals(self):
+        self.assertEqual(self.told("keys", "-"), "\rrecords: 1\r\033[K2 records, of which 1 refused.\r\n")
+
+    def test_totals_of_each(self):
+        self.assertTrue(self.told("groups", "-").endswith("1 group of 1 key; 1 record refused.\r\n"))
+        self.assertTrue(self.told("sheet", "-", "sheet.html").endswith("sheet.html: 1 picture of 2 records, 1 refused.\r\n"))
+
+
+class FirstCommand(CommandTest):
+    """samples/sheet, which a newcomer runs first."""
+
+    SCRIPT = expected.SAMPLES / "sheet"
+
+    def ran(self, *words, **settings):
+        environment = {**os.environ, **settings}
+        return subprocess.run([str(self.SCRIPT), *words], cwd=self.room, capture_output=True, text=True, env=environment)
+
+    def test_page(self):
+        done = self.ran(str(CAPTURE), "page.html")
+        self.assertEqual((done.returncode, done.stdout, done.stderr), (0, "Open page.html in a browser.\n", ""))
+        self.run_command("sheet", CAPTURE, "sheet.html")
+        self.assertEqual((self.room / "page.html").read_bytes(), (self.room / "sheet.html").read_bytes())
+
+    def test_drawn_capture_is_the_usual_one(self):
+        page = expected.ROOT / "target" / "sheet.html"
+        page.unlink(missing_ok=True)
+        self.assertEqual(self.ran().stdout, f"Open {page} in a browser.\n")
+        self.assertIn("<h1>drawn.bin</h1>", page.read_text(encoding="utf-8"))
+
+    def test_missing_capture_is_said_before_anything_is_proved(self):
+        missing = {"TULONKASA_SHARED": str(self.room / "none.so")}
+        done = self.ran("nothing.bin", **missing)
+        self.assertEqual((done.returncode, done.stderr), (2, "samples/sheet: there is no file nothing.bin.\n"))
+        done = self.ran(".", **missing)
+        self.assertEqual((done.returncode, done.stderr), (2, "samples/sheet: there is no file ..\n"))
+        self.assertEqual(self.ran("a", "b", "c").returncode, 2)
+
+    def test_torn_capture_fails(self):
+        self.write("torn.bin", b"1")
+        done = self.ran("torn.bin", "page.html")
+        self.assertEqual((done.returncode, self.names()), (2, ["torn.bin"]))
+
+
+if __name__ == "__main__":
+    unittest.main()
