@@ -228,8 +228,8 @@ class Bank:
     # Pictures
 
     def picture(self, tile: Tile, lane: int = 0) -> Picture:
-        """The tile's plain picture, `width` by `height` texels. Refused by 2, 3, and 5 where the mode does not accept the pair of format and
-        size.
+        """The tile's plain picture, `width` by `height` texels. Refused by 2, 3, and 5 where the mode does not accept the pair of format
+        and size.
 
         >>> Bank(bytes([9]) * 4096).picture(Tile(fmt=4, siz=1, line=1, width=2, height=3))
         <Picture of 2 by 3>

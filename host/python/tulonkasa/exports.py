@@ -2,8 +2,8 @@
 
 `include/tulonkasa.h` says what each takes, refuses, answers and leaves. Here a buffer is one argument, and its length is added: anything
 with the buffer protocol where it is read, and something that can be written, such as a `bytearray`, where it is. Buffers that one call
-writes must not overlap. Numbers are handed on as they are; one that does not fit its C type raises `OverflowError`. Nothing is raised for a refusal:
-the answer has its number, 0 for none.
+writes must not overlap. Numbers are handed on as they are; one that does not fit its C type raises `OverflowError`. Nothing is raised for
+a refusal: the answer has its number, 0 for none.
 
 >>> from tulonkasa import exports, Tile
 >>> key = bytearray(4096)
