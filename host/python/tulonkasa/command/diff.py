@@ -15,7 +15,7 @@ from __future__ import annotations
 
 import argparse
 from collections.abc import Iterator
-from typing import BinaryIO, NamedTuple
+from typing import IO, NamedTuple
 
 from tulonkasa import BANK_BYTES, CAPTURE_BYTES, TILE_BYTES, Bank, Key, Refused, Tile
 from tulonkasa.command.filed import file_records
@@ -43,7 +43,7 @@ class Spot(NamedTuple):
 class Side:
     """A capture whose records have been filed, and can be read again."""
 
-    def __init__(self, file: BinaryIO, name: str) -> None:
+    def __init__(self, file: IO[bytes], name: str) -> None:
         self.file = file
         self.spots: list[Spot] = []
         self.pictures: dict[bytes, list[Spot]] = {}

@@ -5,7 +5,7 @@ from __future__ import annotations
 import os
 import stat
 from collections.abc import Iterator
-from typing import BinaryIO, NamedTuple
+from typing import IO, NamedTuple
 
 from tulonkasa import CAPTURE_BYTES, Bank, Capture, Key, Record, Refused, Tile
 from tulonkasa.command.files import opened, reading
@@ -42,7 +42,7 @@ def filed(record: Record) -> Filed:
     return Filed(record.number, record.tile, record.bank, key, refusal)
 
 
-def file_records(file: BinaryIO, name: str) -> Iterator[Filed]:
+def file_records(file: IO[bytes], name: str) -> Iterator[Filed]:
     """The records of an open file in turn."""
     with reading(name):
         yield from map(filed, progress(Capture(file), pieces_in(file, CAPTURE_BYTES)))
@@ -54,7 +54,7 @@ def filed_records(name: str) -> Iterator[Filed]:
         yield from file_records(file, name)
 
 
-def pieces_in(file: BinaryIO, length: int) -> int | None:
+def pieces_in(file: IO[bytes], length: int) -> int | None:
     """How many records of a length a file has; nothing for a pipe."""
     status = os.fstat(file.fileno())
     return status.st_size // length if stat.S_ISREG(status.st_mode) else None

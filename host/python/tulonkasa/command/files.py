@@ -9,7 +9,7 @@ import sys
 import tempfile
 from collections.abc import Iterator
 from pathlib import Path
-from typing import BinaryIO
+from typing import IO, BinaryIO
 
 from tulonkasa import Torn
 from tulonkasa.command.talk import BAD_USE
@@ -56,7 +56,7 @@ def opened(name: str) -> Iterator[BinaryIO]:
 
 
 @contextlib.contextmanager
-def opened_anywhere(name: str) -> Iterator[BinaryIO]:
+def opened_anywhere(name: str) -> Iterator[IO[bytes]]:
     """A file that can be read at any place. What comes by a pipe is kept in a temporary file meanwhile."""
     with opened(name) as file:
         if file.seekable():

@@ -32,8 +32,8 @@ SEVERAL = (
 
 
 class Story(NamedTuple):
-    """Of a picture that was captured more than once: the first banks by the numbers of their records, and at how many addresses the banks of
-    all differ."""
+    """Of a picture that was captured more than once: the first banks by the numbers of their records, and at how many addresses the banks
+    of all differ."""
 
     banks: dict[int, Picture]
     differing: int

@@ -60,11 +60,11 @@ def run(options: argparse.Namespace) -> int:
         raise Trouble(f"record {options.number}: {refusal}", DIFFERS) from None
     loads = None if asked.loads is None else dict(zip(read, asked.bank.written.numbers_of(read)))
     if options.out:
-        picture = bank_picture(bytes(asked.bank), {LIT: read} if loads is None else by_load(loads))
-        write_whole(options.out, picture_file(picture, options.out.endswith(".pam")))
+        lit = {LIT: read} if loads is None else by_load(loads)
+        write_whole(options.out, picture_file(bank_picture(bytes(asked.bank), lit), options.out.endswith(".pam")))
     if sys.stdout.isatty() and sys.stdout.encoding.lower() == "utf-8":
         print(drawing(read))
-    if asked.loads is None or loads is None:
+    if loads is None or asked.loads is None:
         plain_table(read)
     else:
         load_table(loads, asked.loads)

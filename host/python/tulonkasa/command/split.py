@@ -66,7 +66,7 @@ def captured(name: str) -> tuple[list[Entry], dict[int, Refused]]:
 
 def print_sides(entries: list[Entry], split: Split, refusals: dict[int, Refused]) -> None:
     groups: dict[bytes, int] = {}
-    rows = [(number, "refused", refusal) for number, refusal in refusals.items()]
+    rows: list[tuple[int, str, object]] = [(number, "refused", refusal) for number, refusal in refusals.items()]
     for entry, side in zip(entries, split.sides):
         rows.append((entry.capture, str(side), groups.setdefault(entry.body, len(groups))))
     table = Table("capture", "side", "group")
