@@ -15,6 +15,8 @@ sys.dont_write_bytecode = True  # no compiled files are left beside the tests
 import expected
 
 COMMAND = expected.ROOT / "tulonkasa"
+# Settings of Python, such as one against buffers, are a user's affair.
+ENVIRONMENT = {name: value for name, value in os.environ.items() if not name.startswith("PYTHON")}
 sys.path.insert(0, str(expected.ROOT / "host" / "python"))
 
 
@@ -44,8 +46,7 @@ class CommandTest(unittest.TestCase):
 
     def run_command(self, *arguments, given=b"", **options):
         """Runs the command in the test's folder."""
-        if "stdout" not in options:
-            options["stdout"] = subprocess.PIPE
+        options = {"stdout": subprocess.PIPE, "env": ENVIRONMENT, **options}
         words = [str(COMMAND), *map(str, arguments)]
         return Ran(subprocess.run(words, input=given, stderr=subprocess.PIPE, cwd=self.room, timeout=120, **options))
 

@@ -79,6 +79,16 @@ class Diff(CommandTest):
         rows = [["gone", 1, "", expected.digest(U), "", ""], ["new", "", 2, "", expected.digest(L), ""]]
         self.differs(1, rows, [t, u, moon], [t, moon, l])
 
+    def test_several_in_their_places(self):
+        t, u, l, k, a = (expected.record(number) for number in (T, U, L, 5, 6))
+        ran = self.run_command("diff", self.write("a.bin", t + u + l), self.write("b.bin", t + k + a + a))
+        self.assertEqual([row[:3] for row in ran.rows[1:]], [["differs", "1", "1"], ["differs", "2", "2"]])
+
+    def test_one_line_for_a_picture(self):
+        t, moon = expected.record(T), expected.record(MOON)
+        self.differs(1, [["new", "", 1, "", expected.digest(MOON), ""]], [t], [t, moon, moon])
+        self.differs(1, [["gone", 0, "", expected.digest(MOON), "", ""]], [moon, t, moon], [t])
+
     def test_another_tile_record_is_another_picture(self):
         """The wall at two widths has one key, and two tile records."""
         rows = [["gone", 0, "", expected.digest(WALL), "", ""], ["new", "", 0, "", expected.digest(WALL + 1), ""]]

@@ -1,13 +1,14 @@
 """reads: which bytes of a bank a picture reads, and which load wrote each."""
 
-import os
 import subprocess
 import unittest
+from itertools import product
 
 import expected
 import make
 from expected import CAPTURE, COMPANION, REPLAY, SCENES, WORDS
-from harness import COMMAND, CommandTest, png_size_and_texels, terminal
+from harness import COMMAND, ENVIRONMENT, CommandTest, png_size_and_texels, terminal
+from tulonkasa import Bank, Tile
 from tulonkasa.command.filed import filed_records
 from tulonkasa.command.pictures import addresses_read
 
@@ -52,6 +53,15 @@ class Reads(CommandTest):
                         left_over[address] = 0
                     self.assertEqual((len(read), any(left_over)), (record.key.kept, False), f"{capture.name} {record.number}")
 
+    def test_what_is_visible_of_any_tile(self):
+        """Sides that repeat, mirrored or clamped or not, inside their size, at it and past it."""
+        bank = Bank(bytes(range(1, 256)) * 16 + bytes(range(1, 17)))
+        for clamping, mask, size in product(range(4), range(7), (0, 1, 15, 16, 17, 40)):
+            sides = dict(cms=clamping, masks=mask, width=size, height=3), dict(cmt=clamping, maskt=mask, width=3, height=size)
+            for side in sides:
+                tile = Tile(fmt=make.I, siz=1, line=6, **side)
+                self.assertEqual(len(addresses_read(bank, tile)), bank.key(tile).kept, tile)
+
     def test_picture(self):
         self.prints(0, [NAMES, [512, 767, 256], *sign_entries()], "reads", CAPTURE, SIGN, "bank.png")
         width, height, texels = png_size_and_texels((self.room / "bank.png").read_bytes())
@@ -73,7 +83,7 @@ class Reads(CommandTest):
     def test_terminal(self):
         """A drawing of 64 by 32 characters comes before the table: the letter's 128 bytes fill the first two rows, so the first line."""
         with terminal() as (slave, said):
-            done = subprocess.Popen([str(COMMAND), "reads", str(CAPTURE), "0"], stdout=slave, env={**os.environ, "PYTHONUTF8": "1"})
+            done = subprocess.Popen([str(COMMAND), "reads", str(CAPTURE), "0"], stdout=slave, env={**ENVIRONMENT, "PYTHONUTF8": "1"})
         lines = said().split("\r\n")
         self.assertEqual(lines[:32], ["█" * 64] + ["·" * 64] * 31)
         self.assertEqual((done.wait(), lines[32:]), (0, ["\t".join(NAMES), "0\t127\t128", ""]))

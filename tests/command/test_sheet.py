@@ -119,7 +119,7 @@ class Sheet(CommandTest):
         """Every byte of a tile record can be anything; a page is made all the same."""
         heads = [bytes([255] * 16), bytes(16), bytes([7, 3, 15, 3, 3, 3, 15, 15, 1, 255, 1, 255, 0, 2, 0, 2])]
         page = self.page("-", "sheet.html", given=b"".join(head + bytes(4096) for head in heads))
-        self.assertIn("format 255, , size 255, mode 255", page.texts["refused"])
+        self.assertIn("format 255, size 255, mode 255", page.texts["refused"])
 
     def test_names_are_shown_as_they_are(self):
         self.write("<b>&.bin", expected.record(0))

@@ -1,11 +1,12 @@
 """keys, groups, split, check and replay: their tables, line by line."""
 
+import subprocess
 import unittest
 
 import expected
 import make
 from expected import CAPTURE, COMPANION, GROUPS, KEY_NUMBERS, REPLAY, SCENES, WORDS
-from harness import CommandTest
+from harness import COMMAND, ENVIRONMENT, CommandTest
 
 KEYS = ["record", "digest", "size", "kept", "refusal"]
 
@@ -93,6 +94,17 @@ class Split(CommandTest):
         self.assertEqual((ran.status, ran.rows[-1]), (0, ["all", "4096 tuning, 0 held out, 0 refused", "1 groups"]))
 
 
+    def test_no_more_is_read_than_is_needed(self):
+        """Of a pipe that never ends."""
+        self.write("capture.bin", expected.record(0) * 100)
+        self.write("entries.bin", (bytes(4) + expected.body(0)) * 100)
+        for words in ("split", "split --entries"):
+            name = "entries.bin" if "entries" in words else "capture.bin"
+            endless = f"while cat {name}; do :; done 2>/dev/null | {COMMAND} {words} -"
+            done = subprocess.run(["bash", "-c", endless], cwd=self.room, capture_output=True, env=ENVIRONMENT, text=True, timeout=120)
+            self.assertEqual((done.returncode, done.stderr), (1, f"tulonkasa split: standard input: {WORDS[16]}.\n"))
+
+
 class Check(CommandTest):
     NAMES = ["entry", "capture", "key"]
 
@@ -120,6 +132,13 @@ class Check(CommandTest):
         self.prints(1, rows, "check", "entries.bin", "banks.bin")
         self.prints(1, rows, "check", "-", "banks.bin", given=entries)
         self.prints(1, rows, "check", "entries.bin", "-", given=expected.bank(0) * len(bodies))
+
+    def test_wrong_alone_and_refused_alone(self):
+        bodies, said = self.offers()
+        for number, totals in ((1, "0 right, 1 wrong, 0 refused"), (4, "0 right, 0 wrong, 1 refused")):
+            self.write("entries.bin", bytes(4) + bodies[number])
+            self.write("banks.bin", expected.bank(0))
+            self.prints(1, [self.NAMES, [0, 0, said[number]], ["all", "", totals]], "check", "entries.bin", "banks.bin")
 
     def test_right_alone(self):
         self.write("entries.bin", bytes(4) + expected.body(0))

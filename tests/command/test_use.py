@@ -8,7 +8,7 @@ import unittest
 
 import expected
 from expected import CAPTURE, COMPANION, REPLAY
-from harness import COMMAND, CommandTest, terminal
+from harness import COMMAND, ENVIRONMENT, CommandTest, terminal
 
 COMMANDS = ("keys", "groups", "sheet", "dump", "find", "diff", "reads", "split", "check", "replay")
 # Each command with a capture, whose name stands for CAPTURE, and what else it takes.
@@ -82,7 +82,7 @@ class Outputs(CommandTest):
         """The page has some hundred thousand bytes, and a file may have forty thousand here."""
         self.write("sheet.html", b"old")
         words = ["bash", "-c", 'ulimit -f 40; trap "" XFSZ; exec "$@"', "-", str(COMMAND), "sheet", str(CAPTURE), "sheet.html"]
-        ran = subprocess.run(words, cwd=self.room, capture_output=True)
+        ran = subprocess.run(words, cwd=self.room, capture_output=True, env=ENVIRONMENT)
         self.assertEqual((ran.returncode, ran.stderr), (2, b"tulonkasa sheet: sheet.html: File too large.\n"))
         self.assertEqual((self.names(), (self.room / "sheet.html").read_bytes()), (["sheet.html"], b"old"))
 
@@ -97,15 +97,15 @@ class Outputs(CommandTest):
         self.assertEqual(self.names(), ["file", "folder"])
 
     def test_reader_that_goes_away(self):
-        words = f"set -o pipefail; yes | head -c 41120000 | {COMMAND} keys - 2>said | head -n 1 >line"
-        subprocess.run(["bash", "-c", words], cwd=self.room, check=False)
+        words = f"yes | head -c 41120000 | {COMMAND} keys - 2>said | head -n 1 >line"
+        subprocess.run(["bash", "-c", words], cwd=self.room, env=ENVIRONMENT, check=True)
         self.assertEqual((self.room / "line").read_bytes(), b"record\tdigest\tsize\tkept\trefusal\n")
         self.assertEqual((self.room / "said").read_bytes(), b"")
 
 
 class Use(CommandTest):
     def test_help(self):
-        environment = {**os.environ, "COLUMNS": "80"}
+        environment = {**ENVIRONMENT, "COLUMNS": "80"}
         text = self.run_command("--help", env=environment).out.decode()
         for command in COMMANDS:
             self.assertRegex(text, rf"(?m)^    {command} ")
@@ -122,20 +122,26 @@ class Use(CommandTest):
             self.assertTrue(ran.error.startswith("usage: tulonkasa"), ran.error)
 
     def test_as_a_module(self):
-        environment = {**os.environ, "PYTHONPATH": str(expected.ROOT / "host" / "python"), "PYTHONDONTWRITEBYTECODE": "1"}
+        environment = {**ENVIRONMENT, "PYTHONPATH": str(expected.ROOT / "host" / "python"), "PYTHONDONTWRITEBYTECODE": "1"}
         words = ["python3", "-m", "tulonkasa", "keys", str(CAPTURE)]
         done = subprocess.run(words, cwd=self.room, capture_output=True, env=environment)
         self.assertEqual((done.returncode, done.stdout), (1, self.run_command("keys", CAPTURE).out))
 
     def test_library_is_missing(self):
-        environment = {**os.environ, "TULONKASA_SHARED": str(self.room / "none.so")}
+        environment = {**ENVIRONMENT, "TULONKASA_SHARED": str(self.room / "none.so")}
         sentence = f"{self.room}/none.so is missing. Make it with host/archive, or name it by TULONKASA_SHARED."
         self.assertEqual(self.fails(2, sentence, "keys", CAPTURE, env=environment).out, b"")
+
+    def test_closed_input_and_output(self):
+        """Standard output first: nobody could read a table."""
+        for closed, sentence in ((">&-", "standard output is closed."), ("<&-", "standard input is closed.")):
+            done = subprocess.run(["bash", "-c", f"{COMMAND} keys - {closed}"], capture_output=True, env=ENVIRONMENT, text=True)
+            self.assertEqual((done.returncode, done.stderr), (2, f"tulonkasa keys: {sentence}\n"))
 
     def test_interrupted(self):
         """It ends with the code of an interrupt, without a word."""
         words = [str(COMMAND), "keys", "-"]
-        done = subprocess.Popen(words, stdin=subprocess.PIPE, stdout=subprocess.PIPE, stderr=subprocess.PIPE)
+        done = subprocess.Popen(words, stdin=subprocess.PIPE, stdout=subprocess.PIPE, stderr=subprocess.PIPE, env=ENVIRONMENT)
         done.stdin.write(expected.record(0))
         done.stdin.flush()
         time.sleep(1)
@@ -146,8 +152,9 @@ class Use(CommandTest):
 class Terminal(CommandTest):
     def told(self, *words):
         """What the command says on a terminal of two records, of which the second comes late."""
+        streams = dict(stdin=subprocess.PIPE, stdout=subprocess.DEVNULL, cwd=self.room, env=ENVIRONMENT)
         with terminal() as (slave, said):
-            done = subprocess.Popen([str(COMMAND), *words], stdin=subprocess.PIPE, stdout=subprocess.DEVNULL, stderr=slave, cwd=self.room)
+            done = subprocess.Popen([str(COMMAND), *words], stderr=slave, **streams)
         with contextlib.closing(done.stdin):
             done.stdin.write(expected.record(0))
             done.stdin.flush()
@@ -171,7 +178,7 @@ class FirstCommand(CommandTest):
     SCRIPT = expected.SAMPLES / "sheet"
 
     def ran(self, *words, **settings):
-        environment = {**os.environ, **settings}
+        environment = {**ENVIRONMENT, **settings}
         return subprocess.run([str(self.SCRIPT), *words], cwd=self.room, capture_output=True, text=True, env=environment)
 
     def test_page(self):
@@ -179,6 +186,11 @@ class FirstCommand(CommandTest):
         self.assertEqual((done.returncode, done.stdout, done.stderr), (0, "Open page.html in a browser.\n", ""))
         self.run_command("sheet", CAPTURE, "sheet.html")
         self.assertEqual((self.room / "page.html").read_bytes(), (self.room / "sheet.html").read_bytes())
+
+    def test_standard_input(self):
+        words = f"{self.SCRIPT} - page.html <{CAPTURE}"
+        done = subprocess.run(["bash", "-c", words], cwd=self.room, capture_output=True, env=ENVIRONMENT)
+        self.assertEqual((done.returncode, self.names()), (0, ["page.html"]))
 
     def test_drawn_capture_is_the_usual_one(self):
         page = expected.ROOT / "target" / "sheet.html"

@@ -66,6 +66,8 @@ def laid_out(about: str, examples: str) -> dict[str, Any]:
 def main(arguments: Sequence[str] | None = None) -> int:
     """Runs the command, and answers its exit code."""
     options = parser().parse_args(arguments)
+    if sys.stdout is None:
+        return ended(options.name, "standard output is closed")
     try:
         library.load()
         status: int = options.run(options)
@@ -77,7 +79,7 @@ def main(arguments: Sequence[str] | None = None) -> int:
     except KeyboardInterrupt:
         return 128 + signal.SIGINT
     except OSError as error:
-        # Whatever else is read or written says its own name, so this is a table's.
+        # Files that are read or written have said their own names.
         leave_output()
         return ended(options.name, f"standard output: {error.strerror}")
     return status

@@ -55,8 +55,12 @@ class Side:
                 self.refusals.append((record.number, record.refusal))
 
     def add(self, spot: Spot) -> None:
+        """Adds a record. Those of one picture have its body in common, which is then held once."""
+        captured = self.pictures.setdefault(spot.body, [])
+        if captured:
+            spot = spot._replace(body=captured[0].body)
+        captured.append(spot)
         self.spots.append(spot)
-        self.pictures.setdefault(spot.body, []).append(spot)
 
     def bank(self, spot: Spot) -> bytes:
         """The bank of a record."""

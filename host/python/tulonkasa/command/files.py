@@ -47,6 +47,8 @@ def explained(name: str) -> Iterator[None]:
 def opened(name: str) -> Iterator[BinaryIO]:
     """A file to read; `-` is standard input."""
     if name == STANDARD:
+        if sys.stdin is None:
+            raise Trouble("standard input is closed")
         yield sys.stdin.buffer
         return
     with explained(name):
@@ -90,9 +92,7 @@ def write_whole(name: str, data: bytes) -> None:
     is written to as it is."""
     path = Path(name)
     if name == STANDARD:
-        with explained("standard output"):
-            sys.stdout.buffer.write(data)
-            sys.stdout.buffer.flush()
+        sys.stdout.buffer.write(data)
         return
     with explained(name):
         if path.is_dir():

@@ -9,16 +9,14 @@ from tulonkasa import Tile
 FORMATS = ("RGBA", "YUV", "CI", "IA", "I")
 BITS = (4, 8, 16, 32)
 MODES = ("", "", "colours by palette", "shades by palette")
-PALETTES = 2  # modes from this one on read a palette
 
 
 def format_words(tile: Tile) -> str:
     """A tile's format as artists call it, and its palette if it has one. The numbers may be out of range."""
-    name = FORMATS[tile.fmt] if tile.fmt < len(FORMATS) else f"format {tile.fmt}, "
-    bits = str(BITS[tile.siz]) if tile.siz < len(BITS) else f", size {tile.siz}"
-    if tile.mode >= len(MODES):
-        return f"{name}{bits}, mode {tile.mode}"
-    return f"{name}{bits}, {MODES[tile.mode]}" if tile.mode >= PALETTES else f"{name}{bits}"
+    named = tile.fmt < len(FORMATS) and tile.siz < len(BITS)
+    words = f"{FORMATS[tile.fmt]}{BITS[tile.siz]}" if named else f"format {tile.fmt}, size {tile.siz}"
+    mode = MODES[tile.mode] if tile.mode < len(MODES) else f"mode {tile.mode}"
+    return f"{words}, {mode}" if mode else words
 
 
 def tile_words(tile: Tile) -> str:
