@@ -123,6 +123,14 @@ def colour(entry):
     return bytes((five_bits(entry >> 11), five_bits(entry >> 6 & 31), five_bits(entry >> 1 & 31), 255 * (entry & 1)))
 
 
+def lookup_rows(number):
+    """The four rows of a lookup of eight bits intensity: two of even rows, each place's byte, and two of odd rows, whose halves of a word
+    have changed places."""
+    whole = bank(number)
+    rows = [b"".join(bytes([whole[place ^ swap]] * 4) for place in range(make.BANK)) for swap in (0, 4)]
+    return [rows[0], rows[0], rows[1], rows[1]]
+
+
 def texels(number):
     """What is visible of a record, as its texels were drawn: intensities of four bits, colours of sixteen or thirty-two, and indexes of
     four bits under a palette."""

@@ -50,8 +50,9 @@ class Dump(CommandTest):
 
     def test_lookup_is_whole(self):
         self.run_command("dump", CAPTURE, "pictures")
-        digest = expected.digest(expected.numbered("wall past its size"))
-        self.assertEqual(png_size_and_texels((self.room / "pictures" / f"{digest}.png").read_bytes())[:2], (4096, 4))
+        number = expected.numbered("tall of an odd line")
+        data = (self.room / "pictures" / f"{expected.digest(number)}.png").read_bytes()
+        self.assertEqual(png_size_and_texels(data), (4096, 4, b"".join(expected.lookup_rows(number))))
 
     def test_pam(self):
         self.prints(1, [NAMES, *rows(self.written, ".pam")], "dump", "--pam", CAPTURE, "pictures")

@@ -85,6 +85,15 @@ class Sheet(CommandTest):
         for name in ("letter T", "letter A", "red bricks", "sign by day", "sign by night", "wall 64 by 64", "sun"):
             self.assertIn(expected.texels(expected.numbered(name)), texels, name)
 
+    def test_lookup_is_folded(self):
+        """Each of its four rows to 64 by 64: the first beside the second, and the third beside the fourth below them."""
+        page = self.page(CAPTURE, "sheet.html")
+        folded = [texels for width, height, texels in page.pictures if (width, height) == (128, 128)]
+        rows, step = expected.lookup_rows(expected.numbered("tall of an odd line")), 4 * 64
+        halves = zip(rows[::2], rows[1::2])
+        lines = [row[place : place + step] for pair in halves for place in range(0, len(rows[0]), step) for row in pair]
+        self.assertEqual((len(folded), folded[1]), (3, b"".join(lines)))
+
     def test_captured_more_than_once(self):
         """The sentence has the count of addresses at which the banks differ; each bank is a picture of 64 by 64."""
         page = self.page(CAPTURE, "sheet.html")
