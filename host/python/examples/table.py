@@ -17,6 +17,7 @@ Captures are independent, so `keys` may run for many at once, on any machines:
 from __future__ import annotations
 
 import base64
+import contextlib
 import hashlib
 import sqlite3
 import sys
@@ -78,7 +79,7 @@ def group_of(table: sqlite3.Connection, digest: str, body: bytes) -> int:
 def meet(name: str) -> Iterator[str]:
     """Puts the lines of standard input into the table: all of them, or none where one is wrong or was met before."""
     met, refused = 0, 0
-    with opened(name) as table:
+    with opened(name) as table, table:
         for line in sys.stdin:
             digest, file, number, *rest = line.rstrip("\n").split("\t")
             if digest == REFUSED:
@@ -94,8 +95,9 @@ def meet(name: str) -> Iterator[str]:
 def sides(name: str) -> Iterator[str]:
     """The side of each record, by its group's number."""
     query = "SELECT file, records.number, digest, bodies.number FROM records JOIN bodies ON records.body = bodies.number ORDER BY 1, 2"
-    for file, number, digest, group in opened(name).execute(query):
-        yield f"{file}\t{number}\t{digest}\t{group}\t{side_of(group)}"
+    with opened(name) as table:
+        for file, number, digest, group in table.execute(query):
+            yield f"{file}\t{number}\t{digest}\t{group}\t{side_of(group)}"
 
 
 def side_of(group: int) -> Side:
@@ -103,11 +105,12 @@ def side_of(group: int) -> Side:
     return Side.HELD_OUT if group % IN_FIVE == HELD_OUT else Side.TUNING
 
 
-def opened(name: str) -> sqlite3.Connection:
-    """The table of a file, which is made where it is missing."""
-    table = sqlite3.connect(name)
-    table.executescript(TABLES)
-    return table
+@contextlib.contextmanager
+def opened(name: str) -> Iterator[sqlite3.Connection]:
+    """The table of a file, which is made where it is missing, and closed again."""
+    with contextlib.closing(sqlite3.connect(name)) as table:
+        table.executescript(TABLES)
+        yield table
 
 
 def main(arguments: list[str]) -> int:

@@ -95,6 +95,13 @@ class Loads(unittest.TestCase):
         self.assertEqual(bytes(written)[:18], bytes([0, 1] * 8 + [0, 2]))
         self.assertEqual(list(written.numbers_of(bank.picture_observed(TEXELS).trail)), [1] * 8 + [2] * 8)
 
+    def test_addresses_at_the_ends(self):
+        bank = Bank()
+        bank.load_block(b"", Tile(siz=2, tmem_addr=511), 2, 0, 1)
+        self.assertEqual(list(bank.written.addresses()), list(range(4088, 4096)))
+        self.assertEqual(list(bank.written.numbers_of([4095, -1, 4096, 0])), [1, 0, 0, 0])
+        self.assertEqual((bank.written.number_at(4095), bank.written.number_at(-1)), (1, 0))
+
     def test_numbers_of_two_bytes(self):
         bank = Bank()
         for _ in range(0x1234):

@@ -1,5 +1,6 @@
 """Captures out of files, pipes and standard input, and odd ones; the lines of the proved lister."""
 
+import gc
 import io
 import os
 import subprocess
@@ -7,6 +8,7 @@ import sys
 import tempfile
 import threading
 import unittest
+import warnings
 from pathlib import Path
 
 from tests.support import CAPTURE, INTENSITY, ROOT, listed
@@ -73,6 +75,14 @@ class Sources(unittest.TestCase):
             with open(path, "rb", buffering=0) as file:
                 self.assertEqual(taken(file), self.due)
 
+    def test_a_path_is_closed_again(self):
+        with warnings.catch_warnings(record=True) as said:
+            warnings.simplefilter("always", ResourceWarning)
+            self.assertEqual(len(list(Capture(CAPTURE))), CAPTURE.stat().st_size // CAPTURE_BYTES)
+            next(iter(Capture(CAPTURE)))
+            gc.collect()
+        self.assertEqual([str(one.message) for one in said], [])
+
     def test_bytes(self):
         for source in (RECORD * 5, bytearray(RECORD * 5), memoryview(RECORD * 5), io.BytesIO(RECORD * 5)):
             self.assertEqual(taken(source), self.due)
@@ -126,7 +136,7 @@ class Records(unittest.TestCase):
         self.assertEqual((record.number, record.tile, record.lane), (0, INTENSITY, 0))
         self.assertEqual(record.bank, Bank(RECORD[16:]))
         self.assertEqual(record.key(), record.bank.key(INTENSITY))
-        self.assertEqual(record.picture(), record.bank.sample(INTENSITY))
+        self.assertEqual(record.sample(), record.bank.sample(INTENSITY))
 
     def test_any_tile_is_given(self):
         (record,) = Capture(b"\xff" * 16 + bytes(BANK_BYTES))
@@ -161,6 +171,17 @@ class Odd(unittest.TestCase):
             list(Capture("/nothing/here.bin"))
         with self.assertRaises(IsADirectoryError):
             list(Capture(ROOT))
+
+    def test_a_pipe_that_does_not_wait(self):
+        reading, writing = os.pipe()
+        self.addCleanup(os.close, writing)
+        os.set_blocking(reading, False)
+        os.write(writing, RECORD + RECORD[:9])
+        with open(reading, "rb", buffering=0) as file:
+            records = iter(Capture(file))
+            self.assertEqual(next(records).number, 0)
+            with self.assertRaises(BlockingIOError):
+                next(records)
 
     def test_what_is_no_source(self):
         with self.assertRaisesRegex(TypeError, "^the file gives text; open it in binary mode$"):

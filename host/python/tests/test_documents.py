@@ -3,10 +3,16 @@
 import doctest
 import importlib
 import inspect
+import os
 import pkgutil
+import re
+import subprocess
+import sys
+import textwrap
 import unittest
 
 import tulonkasa
+from tests.support import ROOT
 
 NAMES = [found.name for found in pkgutil.iter_modules(tulonkasa.__path__) if found.name != "__main__"]
 MODULES = [tulonkasa, *(importlib.import_module(f"tulonkasa.{name}") for name in NAMES)]
@@ -50,6 +56,24 @@ class Documents(unittest.TestCase):
                 if function.__code__.co_filename == module.__file__:
                     parameters = [part for part in inspect.signature(function).parameters if part not in ("self", "cls")]
                     self.assertLessEqual({*parameters, "return"}, set(function.__annotations__), f"{module.__name__}.{name}")
+
+    def test_the_first_examples(self):
+        """The package's own, and the one of host/README.md, on the sample capture."""
+        readme = (ROOT / "host" / "README.md").read_text().split("\nWhich records of a capture share a key:\n")[1]
+        own = tulonkasa.__doc__.split("share a key:\n")[1].replace('"capture.bin"', '"samples/capture.bin"')
+        for text in (readme, own):
+            code = textwrap.dedent(re.match(r"(?:\n|    .*\n)+", text)[0])
+            done = subprocess.run(
+                [sys.executable, "-c", code],
+                cwd=ROOT,
+                env={**os.environ, "PYTHONPATH": str(ROOT / "host" / "python")},
+                capture_output=True,
+                text=True,
+                check=True,
+            )
+            named = [line for line in done.stdout.splitlines() if re.match(r"[0-9a-f]{64} [0-9]+ ", line)]
+            self.assertGreater(len(named), 100)
+            self.assertGreater(len(done.stdout.splitlines()), len(named))
 
     def test_what_is_exported(self):
         self.assertEqual(sorted(tulonkasa.__all__), tulonkasa.__all__)

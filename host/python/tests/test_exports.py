@@ -196,6 +196,11 @@ class Buffers(unittest.TestCase):
             exports.tk_key(other, *INTENSITY.numbers, 0, key)
             self.assertEqual(key, due)
 
+    def test_what_can_not_be_read(self):
+        for other in (4096, [0] * 4096, "text", None):
+            with self.assertRaises(TypeError):
+                exports.tk_key(other, *INTENSITY.numbers, 0, bytearray(4096))
+
     def test_what_can_not_be_written(self):
         with self.assertRaises(TypeError):
             exports.tk_key(bytes(4096), *INTENSITY.numbers, 0, bytes(4096))

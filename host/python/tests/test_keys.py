@@ -2,6 +2,7 @@
 
 import hashlib
 import unittest
+from unittest import mock
 
 from tests.support import INTENSITY, bank_of, refusal_of
 from tulonkasa import BODY_BYTES, Bank, Checked, Entry, Fault, Key, Tile, check
@@ -26,15 +27,12 @@ class Keys(unittest.TestCase):
         self.assertEqual(hash(keys[0]), hash(Bank().key(tile)))
 
     def test_equality_is_not_of_digests(self):
-        key = Bank().key(INTENSITY)
-
-        class Same(Key):
-            digest = key.digest
-
-        other = bank_of({0: b"\x07"}).key(INTENSITY)
-        same = Same(other.tile, other.lane, other.bytes, other.kept)
-        self.assertEqual(same.digest, key.digest)
-        self.assertNotEqual(same, key)
+        key, other, leftover = (bank_of(places).key(INTENSITY) for places in ({}, {0: b"\x07"}, {9: b"\x07"}))
+        with mock.patch.object(Key, "digest", "the same of all"):
+            self.assertEqual(key.digest, other.digest)
+            self.assertNotEqual(key, other)
+            self.assertEqual(key, leftover)
+            self.assertEqual(len({key, other, leftover}), 2)
 
     def test_the_body_and_the_digest(self):
         tile = Tile(fmt=2, siz=1, mode=2, line=3, width=1, height=1)

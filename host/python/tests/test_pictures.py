@@ -86,6 +86,16 @@ class Shapes(unittest.TestCase):
             with self.assertRaisesRegex(ValueError, f"^a picture of {width} by {height} has not {length} bytes$"):
                 Picture(width, height, bytes(length))
 
+    def test_it_can_not_be_changed(self):
+        texels = bytearray(4)
+        picture = Picture(1, 1, texels)
+        texels[0] = 9
+        self.assertEqual((picture.bytes, hash(picture)), (bytes(4), hash(Picture(1, 1, bytes(4)))))
+        with self.assertRaises(AttributeError):
+            picture.width = 2
+        with self.assertRaises(TypeError):
+            Picture(1, 1, 4)
+
     def test_a_view(self):
         picture = noise(3, 2)
         view = picture.view()

@@ -1,5 +1,6 @@
 """Refusals, with their numbers and words."""
 
+import itertools
 import pickle
 import re
 import unittest
@@ -68,6 +69,12 @@ class Numbers(unittest.TestCase):
         self.assertEqual(trail.refusal, 7)
         self.assertEqual(exports.tk_split(1, bytes(4116), bytearray(1)).refusal, 17)
 
+    def test_sides_that_no_memory_has(self):
+        huge = Tile(siz=2, width=(1 << 32) - 1, height=(1 << 32) - 1)
+        for call in (Bank().picture, Bank().picture_observed, Bank().sample, Bank().key, Bank().lookup):
+            self.assertEqual(refusal_of(call, huge), 2)
+        self.assertEqual(refusal_of(huge.decode_linear, b"", 0), 2)
+
     def test_order_of_tests(self):
         self.assertEqual(refusal_of(Bank().key, Tile(fmt=1, line=512, mode=4), 4), 2)
         self.assertEqual(refusal_of(Bank().key, Tile(fmt=1), 4), 3)
@@ -87,3 +94,4 @@ class Numbers(unittest.TestCase):
         entry = Entry(bytes(4117))
         self.assertEqual(split([entry] * 4096).tuning, 4096)
         self.assertEqual(refusal_of(split, [entry] * 4097), 16)
+        self.assertEqual(refusal_of(split, itertools.repeat(entry)), 16)

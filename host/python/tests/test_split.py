@@ -54,6 +54,19 @@ class Splits(unittest.TestCase):
         self.assertEqual(split(entries).sides, sides_by_hand(entries))
         self.assertEqual(refusal_of(split, [*entries, entries[0]]), 16)
 
+    def test_more_than_are_taken_in_batches(self):
+        """As docs/SCALE.md says: one entry of each group, in batches of a multiple of five, gives the sides of one long split."""
+        bodies = [Entry((number % 10000).to_bytes(4117, "big")) for number in range(12000)]
+        groups = list(dict.fromkeys(bodies))
+        self.assertEqual(len(groups), 10000)
+
+        def by_batches(length):
+            batches = [groups[place : place + length] for place in range(0, len(groups), length)]
+            return [side for batch in batches for side in split(batch).sides]
+
+        self.assertEqual(by_batches(4095), sides_by_hand(groups))
+        self.assertNotEqual(by_batches(4096), sides_by_hand(groups))
+
 
 class Entries(unittest.TestCase):
     def test_parts(self):
@@ -63,6 +76,10 @@ class Entries(unittest.TestCase):
         self.assertEqual(one, Entry(bytes(one)))
         self.assertNotEqual(one, entry(0x01020305, 9))
         self.assertEqual(one.body, entry(7, 9, 5).body)
+        data = bytearray(bytes(one))
+        again = Entry(data)
+        data[0] = 0
+        self.assertEqual({one, again}, {one})
 
     def test_other_lengths(self):
         with self.assertRaisesRegex(ValueError, "^an entry has 4,117 bytes, and these are 4,116$"):

@@ -24,12 +24,19 @@ def example(name):
 
 
 TABLE, SCALE = example("table"), example("scale")
+SCALE_PAGE = (ROOT / "docs" / "SCALE.md").read_text()
 ONE = Tile(fmt=4, siz=1, width=1, height=1)
 
 
 def record(seen, leftover, tile=ONE):
     """A record whose picture is one byte."""
     return bytes(tile) + bytes(bank_of({0: bytes([seen, leftover])}))
+
+
+def commands_of(text):
+    """The lines of a text that are commands over the table."""
+    lines = [line.split("#")[0].strip() for line in text.splitlines() if line.startswith("    ")]
+    return [line for line in lines if line.startswith("ls ") or line.endswith("captures.db")]
 
 
 class Table(unittest.TestCase):
@@ -94,8 +101,9 @@ class Table(unittest.TestCase):
 
     def test_the_commands_of_its_words(self):
         SCALE.make(str(self.room), 40, 4, 9)
-        commands = [line.strip() for line in TABLE.__doc__.splitlines() if line.startswith("    ls ") or "captures.db" in line]
+        commands = commands_of(TABLE.__doc__)
         self.assertEqual(len(commands), 3)
+        self.assertEqual(commands, commands_of(SCALE_PAGE))
         shutil.copyfile(EXAMPLES / "table.py", self.room / "table.py")
         os.chmod(self.room / "table.py", 0o755)
         environment = {**os.environ, "PATH": f"{self.room}:{os.environ['PATH']}", "PYTHONPATH": str(EXAMPLES.parent)}
@@ -104,6 +112,13 @@ class Table(unittest.TestCase):
         )
         self.assertIn("40 records met, 0 refused", done.stdout)
         self.assertEqual(len(done.stdout.splitlines()), 41)
+
+    def test_the_query_of_the_page(self):
+        (self.room / "a.bin").write_bytes(record(1, 0) + record(2, 0) + record(1, 9))
+        self.meet("a.bin")
+        (query,) = [line.strip() for line in SCALE_PAGE.splitlines() if line.startswith("    SELECT ")]
+        with TABLE.opened(self.room / "captures.db") as table:
+            self.assertEqual(table.execute(query).fetchall(), [(0, 2, "a.bin:0,a.bin:2")])
 
     def test_refused_records_take_no_part(self):
         wide = Tile(fmt=4, siz=1, width=4097, height=1)
@@ -115,7 +130,7 @@ class Table(unittest.TestCase):
     def test_the_body_decides_and_not_the_digest(self):
         (self.room / "a.bin").write_bytes(record(1, 0) + record(1, 5))
         (one, _) = Capture(self.room / "a.bin")
-        with TABLE.opened(self.room / "captures.db") as table:
+        with TABLE.opened(self.room / "captures.db") as table, table:
             table.execute("INSERT INTO bodies VALUES (0, ?, ?)", (one.key().digest, TABLE.packed(bytes(4113))))
         made = self.meet("a.bin")
         self.assertEqual([group for _, group, _ in made.values()], [1, 1])

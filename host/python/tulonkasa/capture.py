@@ -35,7 +35,7 @@ class Record:
         """The key of the record's visible picture; as `Bank.key` says."""
         return self.bank.key(self.tile, self.lane)
 
-    def picture(self) -> Picture:
+    def sample(self) -> Picture:
         """The picture that the record's tile calls for; as `Bank.sample` says."""
         return self.bank.sample(self.tile, self.lane)
 
@@ -52,7 +52,7 @@ class Capture:
 
     >>> tile = Tile(fmt=4, siz=1, width=2, height=1)
     >>> for record in Capture(bytes(tile) + bytes(4096)):
-    ...     print(record.number, record.key().kept, record.picture())
+    ...     print(record.number, record.key().kept, record.sample())
     0 2 <Picture of 2 by 1>
     """
 

@@ -5,10 +5,11 @@ from __future__ import annotations
 import builtins
 import enum
 import hashlib
-from dataclasses import dataclass
+from dataclasses import dataclass, field
 from typing import TYPE_CHECKING
 
 from tulonkasa import exports
+from tulonkasa.parameters import fixed
 from tulonkasa.refusal import refuse
 from tulonkasa.sizes import BANK_BYTES, TILE_BYTES
 from tulonkasa.tile import Tile
@@ -41,7 +42,7 @@ class Key:
     tile: Tile
     lane: int
     bytes: builtins.bytes
-    kept: int
+    kept: int = field(compare=False)  # the others decide it
 
     def __hash__(self) -> int:
         return hash(self.bytes)
@@ -70,7 +71,7 @@ class Key:
         >>> Key.from_body(key.body) == key
         True
         """
-        data = bytes(memoryview(body))
+        data = fixed(body)
         if len(data) != BODY_BYTES:
             raise ValueError(f"the body of a key has {BODY_BYTES:,} bytes, and these are {len(data):,}")
         key = cut(data[TILE_BYTES + 1 :], Tile.from_bytes(data[:TILE_BYTES]), data[TILE_BYTES])

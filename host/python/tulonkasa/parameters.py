@@ -10,6 +10,11 @@ if TYPE_CHECKING:
     from _typeshed import ReadableBuffer, WriteableBuffer
 
 
+def fixed(data: ReadableBuffer) -> bytes:
+    """The bytes of a buffer: themselves where they can't change, else a copy."""
+    return data if isinstance(data, bytes) else bytes(memoryview(data))
+
+
 class Parameter:
     """A parameter of an export: its name, and the types in C that it stands for."""
 
@@ -49,8 +54,8 @@ class Read(Buffer):
     """A buffer that is read."""
 
     def hand(self, argument: object) -> Sequence[Any]:
-        """Its bytes: themselves where they can't change, else a copy. So it can't overlap a buffer that is written."""
-        data = argument if isinstance(argument, bytes) else bytes(memoryview(cast("ReadableBuffer", argument)))
+        """Its bytes, fixed; so they can't overlap a buffer that is written."""
+        data = fixed(cast("ReadableBuffer", argument))
         return data, len(data)
 
 

@@ -7,6 +7,7 @@ from dataclasses import dataclass
 from typing import TYPE_CHECKING, Any
 
 from tulonkasa import exports
+from tulonkasa.parameters import fixed
 from tulonkasa.png import png
 from tulonkasa.refusal import Refused, refuse
 from tulonkasa.sizes import PAM_HEADER_MOST
@@ -38,6 +39,7 @@ class Picture:
     bytes: builtins.bytes
 
     def __post_init__(self) -> None:
+        object.__setattr__(self, "bytes", fixed(self.bytes))
         due = 4 * self.width * self.height
         if self.width < 0 or self.height < 0 or len(self.bytes) != due:
             raise ValueError(f"a picture of {self.width} by {self.height} has not {len(self.bytes):,} bytes")

@@ -50,15 +50,17 @@ def name_of(source: Source) -> str:
 
 def whole_or_rest(file: BinaryIO, length: int) -> bytes:
     """So many bytes of a file, or fewer where it ends. A pipe may give them piece by piece."""
-    data = file.read(length)
-    if isinstance(data, str):
-        raise TypeError("the file gives text; open it in binary mode")
-    while data is None or 0 < len(data) < length:
-        more = file.read(length - len(data or b""))
+    data = b""
+    while len(data) < length:
+        more = file.read(length - len(data))
+        if more is None:
+            raise BlockingIOError("the input has no bytes yet, and does not wait for them")
+        if isinstance(more, str):
+            raise TypeError("the file gives text; open it in binary mode")
         if not more:
             break
-        data = (data or b"") + more
-    return data or b""
+        data += more
+    return data
 
 
 def pieces(source: Source, length: int) -> Iterator[bytes]:

@@ -8,7 +8,8 @@ from dataclasses import dataclass, fields
 from typing import TYPE_CHECKING, BinaryIO, Iterator
 
 from tulonkasa.bank import Bank
-from tulonkasa.pieces import opened, pieces
+from tulonkasa.parameters import fixed
+from tulonkasa.pieces import opened, pieces, whole_or_rest
 from tulonkasa.refusal import Refused
 from tulonkasa.sizes import RECORD_BYTES, SOURCE_MOST, TILE_BYTES
 from tulonkasa.tile import Tile
@@ -52,7 +53,7 @@ class ReplayRecord:
     @classmethod
     def from_bytes(cls, data: ReadableBuffer) -> ReplayRecord:
         """The record of 48 bytes. Any are one; its numbers may be out of range. Other lengths raise `ValueError`."""
-        data = bytes(memoryview(data))
+        data = fixed(data)
         if len(data) != RECORD_BYTES:
             raise ValueError(f"a record of a replay has {RECORD_BYTES} bytes, and these are {len(data):,}")
         kind, lane = HEAD.unpack_from(data)
@@ -126,4 +127,4 @@ def replayed(bank: Bank, number: int, data: bytes, companion: BinaryIO, end: int
 def part_of(record: ReplayRecord, companion: BinaryIO) -> bytes:
     """The source of a load. A longer one than is ever taken is refused, whatever is read of it."""
     companion.seek(record.offset)
-    return companion.read(min(record.length, SOURCE_MOST))
+    return whole_or_rest(companion, min(record.length, SOURCE_MOST))

@@ -4,21 +4,20 @@ from __future__ import annotations
 
 import builtins
 import enum
+import itertools
 from dataclasses import dataclass
 from typing import TYPE_CHECKING, Iterable, Iterator
 
 from tulonkasa import exports
 from tulonkasa.bank import Bank
 from tulonkasa.key import BODY_BYTES, Checked, Key
-from tulonkasa.parameters import Number
+from tulonkasa.parameters import Number, fixed
 from tulonkasa.pieces import pieces
 from tulonkasa.refusal import refuse
 from tulonkasa.sizes import BANK_BYTES, ENTRIES_MOST, ENTRY_BYTES, TILE_BYTES
 from tulonkasa.tile import Tile
 
 if TYPE_CHECKING:
-    from _typeshed import ReadableBuffer
-
     from tulonkasa.pieces import Source
 
 BODY_AT = ENTRY_BYTES - BODY_BYTES
@@ -27,9 +26,12 @@ KEY_AT = LANE_AT + 1
 CAPTURE = Number("capture")
 
 
+@dataclass(frozen=True, repr=False)
 class Entry:
     """What `split` takes of a capture: its number, and the tile, the lane and the key of its picture. Entries that agree in all but the
-    number are a group. An entry that was made elsewhere may be any 4,117 bytes.
+    number are a group.
+
+    bytes     the 4,117 bytes of the entry; of one that was made elsewhere they may be any
 
     >>> tile = Tile(fmt=4, siz=1, width=2, height=1)
     >>> entry = Entry.of(7, Bank(bytes([9]) * 4096).key(tile))
@@ -37,13 +39,10 @@ class Entry:
     (7, True, 0, [9, 9, 0])
     """
 
-    __slots__ = ("bytes",)
-
     bytes: builtins.bytes
 
-    def __init__(self, data: ReadableBuffer) -> None:
-        """The entry of these 4,117 bytes."""
-        self.bytes = bytes(memoryview(data))
+    def __post_init__(self) -> None:
+        object.__setattr__(self, "bytes", fixed(self.bytes))
         if len(self.bytes) != ENTRY_BYTES:
             raise ValueError(f"an entry has {ENTRY_BYTES:,} bytes, and these are {len(self.bytes):,}")
 
@@ -80,14 +79,6 @@ class Entry:
 
     def __bytes__(self) -> builtins.bytes:
         return self.bytes
-
-    def __eq__(self, other: object) -> bool:
-        if not isinstance(other, Entry):
-            return NotImplemented
-        return self.bytes == other.bytes
-
-    def __hash__(self) -> int:
-        return hash(self.bytes)
 
     def __repr__(self) -> str:
         return f"<Entry of capture {self.capture}>"
@@ -131,14 +122,9 @@ def split(entries: Iterable[Entry]) -> Split:
     >>> made.tuning, made.held_out, str(made.sides[5]), str(made.sides[7])
     (6, 2, 'held out', 'held out')
     """
-    data = bytearray()
-    count = 0
-    for entry in entries:
-        count += 1
-        if count <= ENTRIES_MOST:
-            data += entry.bytes
-    sides = bytearray(min(count, ENTRIES_MOST))
-    answer = exports.tk_split(count, data, sides)
+    taken = [entry.bytes for entry in itertools.islice(entries, ENTRIES_MOST + 1)]  # with one too many it is refused
+    sides = bytearray(len(taken))
+    answer = exports.tk_split(len(taken), b"".join(taken), sides)
     refuse(answer.refusal)
     return Split([Side(side) for side in sides], answer.tuning, answer.held_out)
 
