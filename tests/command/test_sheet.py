@@ -116,6 +116,12 @@ class Sheet(CommandTest):
         self.assertIn("2 tile records have this key, which keeps 4,096 bytes.", page.texts["key"])
         self.assertIn("128 × 16 , record 21", page.texts["key"])
 
+    def test_one_key_of_unlike_counts(self):
+        """A key of zeros, of two texels and of three."""
+        heads = [bytes([4, 1, *bytes(11), width, 0, 1]) for width in (2, 3)]
+        page = self.page("-", "sheet.html", status=0, given=b"".join(head + bytes(4096) for head in heads))
+        self.assertIn("2 tile records have this key, which keeps 2 to 3 bytes, with its zeros.", page.texts["key"])
+
     def test_refusals_in_words(self):
         page = self.page(CAPTURE, "sheet.html")
         for number, drawn in enumerate(SCENES):

@@ -2,6 +2,7 @@
 
 import contextlib
 import os
+import re
 import subprocess
 import time
 import unittest
@@ -9,6 +10,7 @@ import unittest
 import expected
 from expected import CAPTURE, COMPANION, REPLAY
 from harness import COMMAND, ENVIRONMENT, CommandTest, terminal
+from tulonkasa import command
 
 COMMANDS = ("keys", "groups", "sheet", "dump", "find", "diff", "reads", "split", "check", "replay")
 # Each command with a capture, whose name stands for CAPTURE, and what else it takes.
@@ -96,6 +98,22 @@ class Outputs(CommandTest):
         self.fails(2, "there is no folder none.", "find", "none", CAPTURE)
         self.assertEqual(self.names(), ["file", "folder"])
 
+    def test_a_slip_overwrites_no_capture(self):
+        """As where a shell's star stands for two captures."""
+        self.write("a.bin", expected.record(0))
+        self.write("b.bin", expected.record(1))
+        self.fails(2, "b.bin is to be written, and does not end in .html or .htm.", "sheet", "a.bin", "b.bin")
+        self.fails(2, "b.bin is to be written, and does not end in .png or .pam.", "reads", "a.bin", 0, "b.bin")
+        self.fails(2, "new is to be written, and does not end in .html or .htm.", "sheet", "a.bin", "new")
+        self.assertEqual((self.names(), (self.room / "b.bin").read_bytes()), (["a.bin", "b.bin"], expected.record(1)))
+
+    def test_link_stays_one(self):
+        self.write("page.html", b"old")
+        (self.room / "link.html").symlink_to("page.html")
+        self.assertEqual(self.run_command("sheet", "-", "link.html", given=expected.record(0)).status, 0)
+        self.assertTrue((self.room / "link.html").is_symlink())
+        self.assertIn(b"<h1>standard input</h1>", (self.room / "page.html").read_bytes())
+
     def test_reader_that_goes_away(self):
         words = f"yes | head -c 41120000 | {COMMAND} keys - 2>said | head -n 1 >line"
         subprocess.run(["bash", "-c", words], cwd=self.room, env=ENVIRONMENT, check=True)
@@ -114,6 +132,22 @@ class Use(CommandTest):
             self.assertIn(f"\nexamples:\n  tulonkasa {command} ", ran.out.decode())
             self.assertIn("\nexit codes:\n  0  done\n", ran.out.decode())
             self.assertLess(max(map(len, ran.out.decode().splitlines())), 81, command)
+
+    def test_examples_of_the_helps(self):
+        """Each is run where the samples are, with a partner's files: it ends with 0 or 1, and says nothing but its table."""
+        (self.room / "samples").symlink_to(expected.SAMPLES)
+        entry = bytes(4) + expected.body(0)
+        for name, data in (("partner.bin", entry), ("entries.bin", entry), ("banks.bin", expected.bank(0))):
+            self.write(name, data)
+        environment = {**ENVIRONMENT, "PATH": f"{expected.ROOT}:{ENVIRONMENT['PATH']}"}
+        examples = "\n".join(part.EXAMPLES for part in (command, *command.COMMANDS))
+        lines = re.sub(r"\\\n +", "", examples).splitlines()
+        for line in lines:
+            words = re.sub(r"   +[^ ].*", "", line.strip())  # without what it is for
+            if not words.startswith("#"):
+                done = subprocess.run(["bash", "-c", words], cwd=self.room, env=environment, capture_output=True, text=True)
+                self.assertIn((done.returncode, done.stderr), [(0, ""), (1, "")], words)
+        self.assertGreater(len(lines), 2 * len(COMMANDS))
 
     def test_bad_use(self):
         for words in ([], ["nothing"], ["keys"], ["keys", "a", "b"], ["dump", CAPTURE], ["keys", "--loud", CAPTURE]):
@@ -167,9 +201,24 @@ class Terminal(CommandTest):
     def test_progress_and_totals(self):
         self.assertEqual(self.told("keys", "-"), "\rrecords: 1\r\033[K2 records, of which 1 refused.\r\n")
 
+    def test_table_on_the_terminal_has_no_progress_in_it(self):
+        with terminal() as (slave, said):
+            streams = dict(stdin=subprocess.PIPE, stdout=slave, stderr=slave, cwd=self.room, env=ENVIRONMENT)
+            done = subprocess.Popen([str(COMMAND), "keys", "-"], **streams)
+        with contextlib.closing(done.stdin):
+            done.stdin.write(expected.record(0))
+            done.stdin.flush()
+            time.sleep(1)
+            done.stdin.write(expected.record(0))
+        lines = said().split("\r\n")
+        self.assertEqual((done.wait(), [line.split("\t")[0] for line in lines[:3]]), (0, ["record", "0", "1"]))
+        self.assertEqual(lines[3:], ["2 records, of which 0 refused.", ""])
+
     def test_totals_of_each(self):
         self.assertTrue(self.told("groups", "-").endswith("1 group of 1 key; 1 record refused.\r\n"))
         self.assertTrue(self.told("sheet", "-", "sheet.html").endswith("sheet.html: 1 picture of 2 records, 1 refused.\r\n"))
+        self.assertTrue(self.told("dump", "-", "pictures").endswith("pictures: 1 new picture.\r\n"))
+        self.assertTrue(self.told("find", "pictures", "-").endswith("1 record with a replacement.\r\n"))
 
 
 class FirstCommand(CommandTest):
@@ -205,6 +254,15 @@ class FirstCommand(CommandTest):
         done = self.ran(".", **missing)
         self.assertEqual((done.returncode, done.stderr), (2, "samples/sheet: there is no file ..\n"))
         self.assertEqual(self.ran("a", "b", "c").returncode, 2)
+
+    def test_library_is_made_at_the_first_run(self):
+        """With a toolchain that only says that it was called, and fails: what takes so long is said before it is."""
+        self.write("rt", b"#!/bin/sh\necho rt was called\nexit 3\n").chmod(0o755)
+        settings = {"PATH": f"{self.room}:{ENVIRONMENT['PATH']}", "TULONKASA_SHARED": str(self.room / "none.so")}
+        done = self.ran(str(CAPTURE), "page.html", **settings)
+        first = "samples/sheet: the library is not made yet. Proving and compiling it takes two to three minutes, this once.\n"
+        self.assertEqual((done.returncode, done.stdout, done.stderr), (3, "", first + "rt was called\n"))
+        self.assertEqual(self.names(), ["rt"])
 
     def test_torn_capture_fails(self):
         self.write("torn.bin", b"1")

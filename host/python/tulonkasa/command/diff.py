@@ -19,7 +19,7 @@ from typing import IO, NamedTuple
 
 from tulonkasa import BANK_BYTES, CAPTURE_BYTES, TILE_BYTES, Bank, Key, Refused, Tile
 from tulonkasa.command.filed import file_records
-from tulonkasa.command.files import only_one_standard, opened_anywhere
+from tulonkasa.command.files import only_one_standard, opened_anywhere, reading
 from tulonkasa.command.grouping import room_saved
 from tulonkasa.command.talk import DIFFERS, DONE, Table
 from tulonkasa.command.words import range_words
@@ -45,6 +45,7 @@ class Side:
 
     def __init__(self, file: IO[bytes], name: str) -> None:
         self.file = file
+        self.name = name
         self.spots: list[Spot] = []
         self.pictures: dict[bytes, list[Spot]] = {}
         self.refusals: list[tuple[int, Refused]] = []
@@ -64,8 +65,9 @@ class Side:
 
     def bank(self, spot: Spot) -> bytes:
         """The bank of a record."""
-        self.file.seek(spot.number * CAPTURE_BYTES + TILE_BYTES)
-        return self.file.read(BANK_BYTES)
+        with reading(self.name):
+            self.file.seek(spot.number * CAPTURE_BYTES + TILE_BYTES)
+            return self.file.read(BANK_BYTES)
 
     def key(self, spot: Spot) -> Key:
         """The key of a record, once more."""

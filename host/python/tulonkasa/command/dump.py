@@ -13,7 +13,7 @@ from tulonkasa import Refused
 from tulonkasa.command.filed import Filed, filed_records
 from tulonkasa.command.files import explained, made_folder, replace
 from tulonkasa.command.pictures import picture_file, shown
-from tulonkasa.command.talk import DIFFERS, DONE, Table, say
+from tulonkasa.command.talk import DIFFERS, DONE, Table, counted, say
 
 HELP = "a picture file for each key, for the painters"
 EXAMPLES = """\
@@ -42,7 +42,7 @@ def run(options: argparse.Namespace) -> int:
         written += said == WRITTEN
         if said not in (WRITTEN, THERE):
             status = DIFFERS
-    say(f"{written:,} new pictures in {options.folder}.")
+    say(f"{options.folder}: {counted(written, 'new picture')}.")
     return status
 
 

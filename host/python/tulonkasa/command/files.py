@@ -64,10 +64,11 @@ def opened_anywhere(name: str) -> Iterator[IO[bytes]]:
         if file.seekable():
             yield file
             return
-        with tempfile.TemporaryFile() as kept:
-            with explained(input_name(name)):
-                shutil.copyfileobj(file, kept)
-                kept.seek(0)
+        with explained(input_name(name)):
+            kept = tempfile.TemporaryFile()
+            shutil.copyfileobj(file, kept)
+            kept.seek(0)
+        with kept:
             yield kept
 
 
@@ -87,6 +88,13 @@ def only_one_standard(*names: str) -> None:
         raise Trouble("standard input can stand for one of the files alone")
 
 
+def need_ending(name: str, *endings: str) -> None:
+    """A file that is written has one of these endings, so that no capture is overwritten by a slip."""
+    path = Path(name)
+    if name != STANDARD and not name.endswith(endings) and (path.is_file() or not path.exists()):
+        raise Trouble(f"{name} is to be written, and does not end in {' or '.join(endings)}")
+
+
 def write_whole(name: str, data: bytes) -> None:
     """Writes a file whole or not at all: under another name first, which it then changes. `-` is standard output; a device or pipe
     is written to as it is."""
@@ -99,8 +107,8 @@ def write_whole(name: str, data: bytes) -> None:
             raise IsADirectoryError
         if path.exists() and not path.is_file():
             path.write_bytes(data)
-            return
-        replace(path, data)
+        else:
+            replace(path.resolve(), data)
 
 
 def replace(path: Path, data: bytes) -> None:
@@ -117,18 +125,17 @@ def replace(path: Path, data: bytes) -> None:
 def folder(name: str) -> Path:
     """A folder that is there."""
     path = Path(name)
-    if not path.exists():
-        raise Trouble(f"there is no folder {name}")
-    if not path.is_dir():
-        raise Trouble(f"{name} is not a folder")
+    with explained(name):
+        if not path.exists():
+            raise Trouble(f"there is no folder {name}")
+        if not path.is_dir():
+            raise Trouble(f"{name} is not a folder")
     return path
 
 
 def made_folder(name: str) -> Path:
     """A folder, which is made where there is none."""
-    path = Path(name)
-    if path.exists() and not path.is_dir():
-        raise Trouble(f"{name} is not a folder")
     with explained(name):
-        path.mkdir(parents=True, exist_ok=True)
-    return path
+        if not Path(name).exists():
+            Path(name).mkdir(parents=True)
+    return folder(name)

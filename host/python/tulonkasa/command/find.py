@@ -13,7 +13,7 @@ from tulonkasa import TILE_BYTES, Key
 from tulonkasa.command.dump import KEY_SUFFIX
 from tulonkasa.command.filed import filed_records
 from tulonkasa.command.files import explained, folder
-from tulonkasa.command.talk import DIFFERS, DONE, Table, say
+from tulonkasa.command.talk import DIFFERS, DONE, Table, counted, say
 
 HELP = "which painted replacement belongs to each record"
 EXAMPLES = """\
@@ -45,7 +45,7 @@ def run(options: argparse.Namespace) -> int:
         found += said == FOUND
         if said not in (FOUND, NONE):
             status = DIFFERS
-    say(f"{found:,} records have a replacement.")
+    say(f"{counted(found, 'record')} with a replacement.")
     return status
 
 

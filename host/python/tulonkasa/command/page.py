@@ -135,8 +135,10 @@ def family(contents: Contents, groups: Sequence[Group]) -> str:
         f"record {listed(group.records[:NUMBERS_SHOWN])}{others(group.records)}</figcaption></figure>"
         for group in groups
     )
+    kept = sorted({group.kept for group in groups})
+    said = f"keeps {counted(kept[0], 'byte')}" if len(kept) == 1 else f"keeps {kept[0]:,} to {kept[-1]:,} bytes, with its zeros"
     return f"""<article class="card shared">{frame(contents.cards[groups[0].number])}<div class="story">
-<p>{len(groups)} tile records have this key, which keeps {counted(groups[0].kept, "byte")}.</p>
+<p>{len(groups)} tile records have this key, which {said}.</p>
 <div class="row">{figures}</div>
 </div></article>
 """
@@ -150,8 +152,9 @@ def tiled(card: Card) -> str:
     if not card.picture.bytes:
         return ""
     return (
-        f'<div class="tiled" style="width:{2 * width}px;height:{2 * height}px;background-image:url({data_of(card.picture)});'
-        f'background-size:{2 * card.picture.width}px {2 * card.picture.height}px"></div>'
+        f'<div class="checked"><div class="tiled" style="width:{2 * width}px;height:{2 * height}px;'
+        f"background-image:url({data_of(card.picture)});"
+        f'background-size:{2 * card.picture.width}px {2 * card.picture.height}px"></div></div>'
     )
 
 
@@ -196,7 +199,7 @@ def section(name: str, title: str, about: str, parts: Iterable[str]) -> str:
 
 def frame(card: Card) -> str:
     """The picture on a checkerboard, which shows through where it is clear."""
-    return f'<div class="frame">{image(card.picture, scale(card.picture))}</div>'
+    return f'<div class="frame checked">{image(card.picture, scale(card.picture))}</div>'
 
 
 def is_tall(picture: Picture) -> bool:

@@ -15,7 +15,7 @@ from typing import NamedTuple
 
 from tulonkasa import KINDS, Bank, Refused, Tile
 from tulonkasa.command.filed import filed_records
-from tulonkasa.command.files import Trouble, input_name, write_whole
+from tulonkasa.command.files import Trouble, input_name, need_ending, write_whole
 from tulonkasa.command.pictures import BANK_SIDE, LIT, Shades, addresses_read, bank_picture, load_shades, picture_file
 from tulonkasa.command.replay import replayed_records
 from tulonkasa.command.talk import DIFFERS, DONE, Table
@@ -41,7 +41,7 @@ class Asked(NamedTuple):
 def arguments(parser: argparse.ArgumentParser) -> None:
     parser.add_argument("capture", metavar="CAPTURE", help="a file of records, or - for standard input")
     parser.add_argument("number", metavar="N", type=natural, help="the record's number; the first one is 0")
-    parser.add_argument("out", metavar="OUT", nargs="?", help="the picture to write: PAM if it ends in .pam, else PNG")
+    parser.add_argument("out", metavar="OUT", nargs="?", help="the picture to write, OUT.png or OUT.pam")
     parser.add_argument("--companion", metavar="FILE", help="the sources of a replay; CAPTURE is then its records")
 
 
@@ -53,6 +53,8 @@ def natural(text: str) -> int:
 
 
 def run(options: argparse.Namespace) -> int:
+    if options.out:
+        need_ending(options.out, ".png", ".pam")
     asked = replayed(options) if options.companion else captured(options)
     try:
         read = addresses_read(asked.bank, asked.tile, asked.lane)

@@ -11,7 +11,7 @@ from pathlib import Path
 
 from tulonkasa import BANK_BYTES, Bank, Picture
 from tulonkasa.command.filed import Filed, filed_records
-from tulonkasa.command.files import STANDARD, input_name, write_whole
+from tulonkasa.command.files import STANDARD, input_name, need_ending, write_whole
 from tulonkasa.command.grouping import Group
 from tulonkasa.command.page import Card, Contents, Story, page
 from tulonkasa.command.pictures import BANK_SIDE, CHANGED, LIT, addresses_read, bank_picture, shown, visible
@@ -32,6 +32,7 @@ def arguments(parser: argparse.ArgumentParser) -> None:
 
 
 def run(options: argparse.Namespace) -> int:
+    need_ending(options.out, ".html", ".htm")
     name = input_name(options.capture) if options.capture == STANDARD else Path(options.capture).name
     contents = Sheet(name).filled(options.capture)
     write_whole(options.out, page(contents).encode())

@@ -18,7 +18,10 @@ PATIENCE, PAUSE = 0.5, 0.1
 class Table:
     """Lines of cells with tabs between them. The first names the columns."""
 
+    begun = False
+
     def __init__(self, *names: str) -> None:
+        Table.begun = True
         self.row(*names)
 
     def row(self, *cells: object) -> None:
@@ -38,8 +41,8 @@ def counted(count: int, one: str, several: str = "") -> str:
 
 
 def progress(things: Iterable[Thing], total: int | None = None, nouns: str = "records") -> Iterator[Thing]:
-    """Hands the things on, and says on a terminal how many have been done."""
-    if not sys.stderr.isatty():
+    """Hands the things on, and says on a terminal how many have been done. Where a table's lines come there, they say it."""
+    if not sys.stderr.isatty() or (Table.begun and sys.stdout.isatty()):
         yield from things
         return
     due, shown = time.monotonic() + PATIENCE, False
