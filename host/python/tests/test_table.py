@@ -2,12 +2,14 @@
 
 import importlib.util
 import os
+import re
 import shutil
 import subprocess
 import sys
 import tempfile
 import unittest
 from pathlib import Path
+from unittest import mock
 
 from tests.support import ROOT, bank_of
 from tulonkasa import CAPTURE_BYTES, Capture, Entry, Refused, Tile, split
@@ -37,6 +39,34 @@ def commands_of(text):
     """The lines of a text that are commands over the table."""
     lines = [line.split("#")[0].strip() for line in text.splitlines() if line.startswith("    ")]
     return [line for line in lines if line.startswith("ls ") or line.endswith("captures.db")]
+
+
+class Lines(list):
+    """Stands in for Spark's distributed lists, with what the page uses of them."""
+
+    def map(self, change):
+        return Lines(map(change, self))
+
+    def filter(self, keep):
+        return Lines(filter(keep, self))
+
+    def pipe(self, command):
+        words = [sys.executable, EXAMPLES / command.split()[0], *command.split()[1:]]
+        return Lines(
+            subprocess.run(words, input="\n".join(self), capture_output=True, text=True, check=True).stdout.splitlines()
+        )
+
+    def reduceByKey(self, choose):
+        found = {}
+        for key, value in self:
+            found[key] = choose(found[key], value) if key in found else value
+        return Lines(found.items())
+
+    def sortBy(self, key):
+        return Lines(sorted(self, key=key))
+
+    def zipWithIndex(self):
+        return Lines((one, number) for number, one in enumerate(self))
 
 
 class Table(unittest.TestCase):
@@ -119,6 +149,19 @@ class Table(unittest.TestCase):
         (query,) = [line.strip() for line in SCALE_PAGE.splitlines() if line.startswith("    SELECT ")]
         with TABLE.opened(self.room / "captures.db") as table:
             self.assertEqual(table.execute(query).fetchall(), [(0, 2, "a.bin:0,a.bin:2")])
+
+    def test_the_lines_for_spark(self):
+        SCALE.make(str(self.room), 120, 3, 4)
+        files = [f"{number:04}.bin" for number in range(3)]
+        code = re.findall(r"^    ((?:lines|rows|first|groups|sides) = .*)$", SCALE_PAGE, re.M)
+        self.assertEqual(len(code), 5)
+        spark = mock.Mock()
+        spark.sparkContext.parallelize = lambda names, count: Lines(names)
+        known = {"spark": spark, "names": [str(self.room / file) for file in files]}
+        exec("\n".join(code), known)
+        due = {digest: side for digest, _, side in self.meet(*files).values()}
+        self.assertEqual({digest: side for (digest, _), side in known["sides"]}, due)
+        self.assertIn("held out", due.values())
 
     def test_refused_records_take_no_part(self):
         wide = Tile(fmt=4, siz=1, width=4097, height=1)
