@@ -14,10 +14,12 @@ FUNCTION = re.compile(r'(?:\b(pub)(\s*\([^)]*\))?\s+)?(?:(?:const|unsafe|extern\
 # What can follow a function's parameters: a clause, an array's type, its body, or the end of one without a body.
 AFTER = re.compile(r"\b(requires|ensures|ghost)\s*\{|[\[{;]")
 ITEM = re.compile(r"\b(struct|enum|const|type|mod|trait|fn)\s+(?!fn\b)(\w+)")
+# What an antt file brings from a library of its own crate: the library, the module, and the names where they are listed.
+USED = re.compile(r"^ *(?:pub )?use Rattle·(\w+)·(specs|proofs)\.\w+\.([^\s{]+?)(?:\.{(?:(.*)})?.*|\s.*)?$", re.M)
 NAMED = re.compile(r"(?:^|[,{(])\s*(?:pub(?:\s*\([^)]*\))?\s+)?(?:mut\s+)?(\w+)\s*:(?!:)")
 DECLARED = re.compile(
     r"(?:unfoldable )?(?:abbrev )?(?:axiom )?(?:pub )?"
-    r"(?:(?:record|data|mod) «?([^\s«»:]+)»?|«?([^\s«»:]+)»? :(?=\s|$))"
+    r"(?:(?:record|data|mod|ruleset) «?([^\s«»:]+)»?|«?([^\s«»:]+)»? :(?=\s|$))"
 )
 
 
@@ -194,29 +196,30 @@ def words(text):
     return {word for word in re.split(r"[\s(){}\[\].,;«»_]+", text) if word}
 
 
+def brought(path):
+    """What the `use` lines of an antt file bring from its own crate: pairs of a name and the declarations that it can mean, each
+    as its file and its name. All that a file can mean is meant, where a line lists no names, or one that the file does not have."""
+    for crate, library, module, names in USED.findall(read(path)):
+        files = [f"crates/{crate}/{library}/{module.replace('.', '/')}.antt"]
+        while not os.path.exists(files[-1]) and files[-1].count("/") > 3:
+            files.append(os.path.dirname(files[-1]) + ".antt")
+        file = files[-1]
+        if not os.path.exists(file):
+            continue  # a module that the toolchain makes
+        listed = [part.strip().partition(" as ") for part in names.split(",")] if names else []
+        for name, _, other in listed or [(word, "", "") for word in scope(file)]:
+            own = {(file, one.name) for one in antt(file) if name in one.brings and len(files) == 1}
+            yield other or name, own or set().union(*scope(file).values())
+
+
 @functools.cache
 def scope(path):
-    """What the words of an antt file can mean: for each word the declarations, as pairs of a file and a name, of the file itself
-    and of the files of its own crate that its `use` lines name. Where such a line names no declaration, or one that its file
-    does not have, all of that file is meant."""
+    """What the words of an antt file can mean: for each word the declarations of its crate, as pairs of a file and a name."""
     meant = {}
-
-    def means(name, file, declarations):
-        for word in words(name) or {name}:
-            meant.setdefault(word, set()).update((file, declaration.name) for declaration in declarations)
-
-    for declaration in antt(path):
-        for name in declaration.brings:
-            means(name, path, [declaration])
-    crate = path.split("/")[1]
-    used = re.compile(rf"^use Rattle·{crate}·(specs|proofs)\.\w+\.([^\s{{]+?)(?:\.{{(.*)}}.*|\s.*)?$", re.M)
-    for library, module, names in used.findall(read(path)):
-        file = f"crates/{crate}/{library}/{module.replace('.', '/')}.antt"
-        if not os.path.exists(file):
-            continue  # a module that the toolchain makes of a function
-        for part in names.split(",") if names else [name for one in antt(file) for name in one.brings]:
-            name, _, other = part.strip().partition(" as ")
-            means(other or name, file, [one for one in antt(file) if name in one.brings] or antt(file))
+    own = [(name, {(path, declaration.name)}) for declaration in antt(path) for name in declaration.brings]
+    for name, declarations in own + list(brought(path)):
+        for word in words(name):
+            meant.setdefault(word, set()).update(declarations)
     return meant
 
 
