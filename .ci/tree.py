@@ -1,6 +1,7 @@
 """What the gate's scripts read of a tree: its crates, the functions and other items of its Rattle files, the declarations of its
 antt files, and the changes that its must-fail edits make."""
 
+import functools
 import glob
 import os
 import re
@@ -13,10 +14,12 @@ FUNCTION = re.compile(r'(?:\b(pub)(\s*\([^)]*\))?\s+)?(?:(?:const|unsafe|extern\
 # What can follow a function's parameters: a clause, an array's type, its body, or the end of one without a body.
 AFTER = re.compile(r"\b(requires|ensures|ghost)\s*\{|[\[{;]")
 ITEM = re.compile(r"\b(struct|enum|const|type|mod|trait|fn)\s+(?!fn\b)(\w+)")
+# What an antt file brings from a library of its own crate: the library, the module, and the names where they are listed.
+USED = re.compile(r"^ *(?:pub )?use Rattle·(\w+)·(specs|proofs)\.\w+\.([^\s{]+?)(?:\.{(?:(.*)})?.*|\s.*)?$", re.M)
 NAMED = re.compile(r"(?:^|[,{(])\s*(?:pub(?:\s*\([^)]*\))?\s+)?(?:mut\s+)?(\w+)\s*:(?!:)")
 DECLARED = re.compile(
     r"(?:unfoldable )?(?:abbrev )?(?:axiom )?(?:pub )?"
-    r"(?:(?:record|data|mod) «?([^\s«»:]+)»?|«?([^\s«»:]+)»? :(?=\s|$))"
+    r"(?:(?:record|data|mod|ruleset) «?([^\s«»:]+)»?|«?([^\s«»:]+)»? :(?=\s|$))"
 )
 
 
@@ -147,23 +150,89 @@ def fields(path):
     return [name for opening in openings for name in NAMED.findall(text[opening : closing(text, opening)])]
 
 
-def declarations(path):
+class Declaration(NamedTuple):
+    """A declaration of an antt file, with all that belongs to it. The numbers are places in the file's text."""
+
+    name: str
+    brings: list  # its name, and those of a data type's constructors
+    text: str  # after the heads of the blocks `module .. where` that it stands in; lines of comment are left out
+    start: int
+    end: int
+
+
+@functools.cache
+def antt(path):
     """The definitions, theorems, records, data types and modules of an antt file, also those in its blocks `module .. where`."""
-    names, levels = set(), [0]
-    for line in read(path).split("\n"):
+    found, blocks, place, opening = [], [(0, "")], 0, False
+    for line in read(path).splitlines(keepends=True):
+        start, place, bare_line = place, place + len(line), line.strip()
+        if not bare_line or bare_line.startswith("--"):
+            continue
         level = len(line) - len(line.lstrip(" "))
-        if not line.strip():
-            continue
-        while level < levels[-1]:
-            levels.pop()
-        if level > levels[-1]:
-            continue
-        said = DECLARED.match(line.strip())
-        if said:
-            names.add(said[1] or said[2])
-        elif line.strip().startswith("module "):
-            levels.append(level + 2)
-    return names
+        while level < blocks[-1][0]:
+            blocks.pop()
+        said = DECLARED.match(bare_line)
+        if level == blocks[-1][0] and said:
+            name, opening = said[1] or said[2], False
+            found.append(Declaration(name, [name], "".join(head for _, head in blocks) + line, start, place))
+        elif level == blocks[-1][0] and bare_line.startswith("module "):
+            blocks.append((level + 2, line))
+            opening = True
+        elif opening:
+            blocks[-1] = (blocks[-1][0], blocks[-1][1] + line)
+        elif found and not line.startswith("use "):
+            made = [said[2]] if said and said[2] and re.search(r"^\s*(?:pub )?data ", found[-1].text, re.M) else []
+            found[-1] = found[-1]._replace(brings=found[-1].brings + made, text=found[-1].text + line, end=place)
+    return found
+
+
+def declarations(path):
+    """Their names."""
+    return {declaration.name for declaration in antt(path)}
+
+
+def words(text):
+    """The words of a text of antt that can be names. An operator stands in a text by its parts."""
+    return {word for word in re.split(r"[\s(){}\[\].,;«»_]+", text) if word}
+
+
+def brought(path):
+    """What the `use` lines of an antt file bring from its own crate: pairs of a name and the declarations that it can mean, each
+    as its file and its name. All that a file can mean is meant, where a line lists no names, or one that the file does not have."""
+    for crate, library, module, names in USED.findall(read(path)):
+        files = [f"crates/{crate}/{library}/{module.replace('.', '/')}.antt"]
+        while not os.path.exists(files[-1]) and files[-1].count("/") > 3:
+            files.append(os.path.dirname(files[-1]) + ".antt")
+        file = files[-1]
+        if not os.path.exists(file):
+            continue  # a module that the toolchain makes
+        listed = [part.strip().partition(" as ") for part in names.split(",")] if names else []
+        for name, _, other in listed or [(word, "", "") for word in scope(file)]:
+            own = {(file, one.name) for one in antt(file) if name in one.brings and len(files) == 1}
+            yield other or name, own or set().union(*scope(file).values())
+
+
+@functools.cache
+def scope(path):
+    """What the words of an antt file can mean: for each word the declarations of its crate, as pairs of a file and a name."""
+    meant = {}
+    own = [(name, {(path, declaration.name)}) for declaration in antt(path) for name in declaration.brings]
+    for name, declarations in own + list(brought(path)):
+        for word in words(name):
+            meant.setdefault(word, set()).update(declarations)
+    return meant
+
+
+def rests_on(path, names):
+    """The declarations that these names of an antt file rest on, those that they mean among them. A declaration rests on all that
+    the words of its text can mean."""
+    found, todo = set(), {one for name in names for word in words(name) for one in scope(path).get(word, ())}
+    while todo:
+        file, name = one = todo.pop()
+        found.add(one)
+        text = "".join(declaration.text for declaration in antt(file) if declaration.name == name)
+        todo |= {other for word in words(text) for other in scope(file).get(word, ())} - found
+    return found
 
 
 class Change(NamedTuple):

@@ -29,6 +29,13 @@ pub mod ReplayNumbers
 pub mod ReplayReasons
 pub mod ReplayPieces
 pub mod Worked
+pub mod WallsWorked
+pub mod ReplayWorked
+pub mod LoadsWorked
+pub mod QuestionsWorked
+pub mod LinearWorked
+pub mod SidesWorked
+pub mod CheckWorked
 pub mod PamWorked
 pub mod Splits
 pub mod SplitWorked

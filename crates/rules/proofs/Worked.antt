@@ -1,32 +1,19 @@
--- The worked examples hold, every row of the table: antt computes both sides.
-use lib.Dec.{T}
-use Rattle.rules.specs.Base.{tab, tabFrom, concat, mem, any, all, same, howMany, distinct, over, numberAt, isWritten, stamped, stamps}
-use Rattle.rules.specs.Reading.{trail, given, andThen, prepend, upTo}
-use Rattle.rules.specs.Texdec.{accepted, acceptedDirect, formatOf}
+-- The worked examples hold, every row of the table: antt computes both sides, part by part.
+use Rattle.rules.specs.Base.{tabFrom, tab, concat, mem, any, all, same, distinct}
+use Rattle.rules.specs.Texdec.{acceptedDirect, accepted, formatOf, ia8Table}
 use Rattle.rules.specs.Sampling.{flag, texels}
-use Rattle.rules.specs.Load.{stored, written, list4, splitStores, wholeStores, wordStores, blockStores, tileStores, tlutStores}
-use Rattle.rules.specs.Load.{hardwareStores, entryStores, entryRow, rowStores, reasoned, madeUp}
-use Rattle.rules.specs.Calls.{blockCall, tileCall, tlutHardwareCall, tlutRowsCall, linearCall, samplingCall, checkCall}
-use Rattle.rules.specs.Picture.{picture, visiblePicture, plain, plainRow, lookup, lookupRow, texel, paletted, direct}
-use Rattle.rules.specs.Linear.{linear, linearRow, linearTexel}
-use Rattle.rules.specs.Key.{key, keyOf, kept, keptCount}
-use Rattle.rules.specs.Check.{lowestWrong, wrongKind, checked}
-use Rattle.rules.specs.Reach.{rowBytes, trailingZeros, rowPeriod, reachRows, doubled, reachAt, reachRow, reachPlain, reachWhole}
-use Rattle.rules.specs.Reach.{reach, hasLoad, paletteOrder, firstReason, rejection}
-use Rattle.rules.specs.Refusal.{first, settle, callOr, call}
+use Rattle.rules.specs.Load.{list4, splitStores, wholeStores, wordStores, blockStores, hardwareStores, entryStores, entryRow}
+use Rattle.rules.specs.Load.{rowStores, tlutStores, stored}
+use Rattle.rules.specs.Reading.{trail, prepend, andThen, upTo}
+use Rattle.rules.specs.Picture.{direct, paletted, texel, plainRow, plain, lookupRow, lookup, picture, visiblePicture}
+use Rattle.rules.specs.Key.{kept, keyOf, key, keptCount}
+use Rattle.rules.specs.Refusal.{first, settle, call}
 use Rattle.rules.specs.Lister.{recordTile, lineTo, recordLineTo, lowDigits, reversed, decimal, lineText, listingTo}
-use Rattle.rules.specs.Replay.{storesIn, outsideIn, recordTests, countOf, left, tested, outcome, inFile, replayed, lines, texts}
-use Rattle.rules.specs.Replay.{replayText}
-use Rattle.rules.specs.Worked.{table, allSame}
+use Rattle.rules.specs.Worked.{allSame, table, Holds, p1, p2, p3, p4, p5, p6, p7, p8, p9, p10, p11, p12, slip, listed}
 
-pub worked : T (allSame table)
-unfolding table tab tabFrom concat mem any distinct trail given andThen prepend upTo accepted acceptedDirect formatOf flag texels
-    stored list4 splitStores wholeStores wordStores blockStores tlutStores hardwareStores rowStores
-    picture visiblePicture plain plainRow lookup lookupRow texel paletted direct key keyOf kept keptCount
-    first settle callOr call recordTile lineTo recordLineTo lowDigits reversed decimal lineText listingTo
-    written stamps stamped tileStores storesIn outsideIn recordTests countOf left tested outcome inFile replayed lines texts replayText
-    all same howMany madeUp entryStores entryRow blockCall numberAt isWritten
-    rowBytes trailingZeros rowPeriod reachRows doubled reachAt reachRow reachPlain reachWhole reach hasLoad
-    reasoned paletteOrder firstReason rejection tlutHardwareCall tlutRowsCall linearCall linear linearRow linearTexel over
-    tileCall samplingCall lowestWrong wrongKind checked checkCall
-worked = tt
+pub worked : Holds table
+unfolding table Holds p1 p2 p3 p4 p5 p6 p7 p8 p9 p10 p11 p12 slip listed tabFrom tab concat mem any all same distinct acceptedDirect
+    accepted formatOf ia8Table flag texels list4 splitStores wholeStores wordStores blockStores hardwareStores entryStores entryRow
+    rowStores tlutStores stored trail prepend andThen upTo direct paletted texel plainRow plain lookupRow lookup picture visiblePicture
+    kept keyOf key keptCount first settle call recordTile lineTo recordLineTo lowDigits reversed decimal lineText listingTo
+worked = (tt, (tt, (tt, (tt, (tt, (tt, (tt, (tt, (tt, (tt, (tt, (tt, (tt, (tt, tt))))))))))))))

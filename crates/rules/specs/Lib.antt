@@ -15,6 +15,13 @@ pub mod Calls
 pub mod Lister
 pub mod Replay
 pub mod Worked
+pub mod WallsWorked
+pub mod ReplayWorked
+pub mod LoadsWorked
+pub mod QuestionsWorked
+pub mod LinearWorked
+pub mod SidesWorked
+pub mod CheckWorked
 pub mod Pam
 pub mod PamWorked
 pub mod Split
