@@ -5,3 +5,4 @@ pub mod cut;
 pub mod key;
 mod reads;
 mod rows;
+mod words;

@@ -10,6 +10,7 @@ ghost use Rattle.rules.specs.Picture.{plainRow, lookupRow, lookup};
 ghost use Rattle.key.specs.Notes.{noted};
 ghost use Rattle.rdp.specs.View.{tileOf};
 use crate::reads::note_texel;
+use crate::words::note_whole_words;
 use rdp::tile::TileDescriptor;
 use tmem::bank::Bank;
 
@@ -24,7 +25,8 @@ fn note_plain_row(bank: &[u8], notes: &mut [u8], tile: TileDescriptor, tlut: u32
     let start = tile.row_start(y);
     let odd = y % 2 == 1;
     let width = tile.width;
-    for x in 0..width {
+    let from = note_whole_words(bank, notes, tile, tlut, lane, y);
+    for x in from..width {
         note_texel(
             bank,
             notes,
