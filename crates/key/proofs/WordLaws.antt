@@ -42,15 +42,17 @@ same-yes true q f g = sym (f refl)
 same-yes false true f g = g refl
 same-yes false false f g = refl
 
--- the words of both halves, one after the other, and one word
+-- one reading is noted after another
+pub then-noted : (s t u : List ℕ) (p q : Reading) (b : List ℕ) → t ≡ noted s (trail p b) → u ≡ noted t (trail q b)
+    → u ≡ noted s (trail (andThen p q) b)
+then-noted s t u p q b e f =
+    f ∙ rw e (sym (noted-append s (trail p b) (trail q b)) ∙ ap (noted s) (sym (trail-then p q b)))
+
+-- the words of both halves, and one word
 pub both-noted : (s t u : List ℕ) (both : Bool) (word : ℕ) → both ≡ true → t ≡ noted s (trail (wordReading (word % 256)) [])
     → u ≡ noted t (trail (wordReading (word % 256 + 256)) []) → u ≡ noted s (trail (directWord both word) [])
 unfolding directWord
-both-noted s t u both word y e f =
-    f
-    ∙ rw (e, y)
-    (sym (noted-append s (trail (wordReading (word % 256)) []) (trail (wordReading (word % 256 + 256)) []))
-    ∙ ap (noted s) (sym (trail-then (wordReading (word % 256)) (wordReading (word % 256 + 256)) [])))
+both-noted s t u both word y e f = rw y (then-noted s t u (wordReading (word % 256)) (wordReading (word % 256 + 256)) [] e f)
 
 pub word-noted : (s u : List ℕ) (both : Bool) (word : ℕ) → both ≡ false → u ≡ noted s (trail (wordReading (word % 512)) [])
     → u ≡ noted s (trail (directWord both word) [])
@@ -103,7 +105,7 @@ word-in a at h =
     covered (λ k. askOne (8 * at + k)) [] 8 (a % 8) a (omega arith) (one-mem a _ (omega arith))
 
 -- where byte c of a row stands, before it wraps
-at-byte : (o : Bool) (tmem s w r : ℕ) → r < 8 → 8 * tmem + swapOdd o (8 * s + (8 * w + r)) ≡ 8 * (tmem + s + w) + turned o r
+pub at-byte : (o : Bool) (tmem s w r : ℕ) → r < 8 → 8 * tmem + swapOdd o (8 * s + (8 * w + r)) ≡ 8 * (tmem + s + w) + turned o r
 at-byte o tmem s w r h =
     let e : 8 * s + (8 * w + r) ≡ 8 * (s + w) + r = omega arith in
     rw (e, swap-word o (s + w) r h) (omega arith)
@@ -120,7 +122,7 @@ pub record HitBelow (both : Bool) (tmem : ℕ) (o : Bool) (s a n : ℕ) : Type 0
   pub hits : Hit both tmem o s a byte
 
 -- one reading or another after it reads a
-then-cases : (p q : Reading) (b : List ℕ) (a : ℕ) → mem a (trail (andThen p q) b) ≡ true
+pub then-cases : (p q : Reading) (b : List ℕ) (a : ℕ) → mem a (trail (andThen p q) b) ≡ true
     → (mem a (trail p b) ≡ true) ⊎ (mem a (trail q b) ≡ true)
 then-cases p q b a h = go (mem a (trail p b)) refl (sym (mem-append a (trail p b) (trail q b)) ∙ (rw (trail-then p q b) at h))
   where
@@ -128,7 +130,7 @@ then-cases p q b a h = go (mem a (trail p b)) refl (sym (mem-append a (trail p b
     go true e h′ = inl e
     go false e h′ = inr h′
 
-then-mem : (p q : Reading) (b : List ℕ) (a : ℕ) → (mem a (trail p b) ≡ true) ⊎ (mem a (trail q b) ≡ true)
+pub then-mem : (p q : Reading) (b : List ℕ) (a : ℕ) → (mem a (trail p b) ≡ true) ⊎ (mem a (trail q b) ≡ true)
     → mem a (trail (andThen p q) b) ≡ true
 then-mem p q b a c =
     rw (trail-then p q b, mem-append a (trail p b) (trail q b))
@@ -225,7 +227,7 @@ module _ (tmem : ℕ) (o : Bool) (s a : ℕ) where
       h
 
 -- texel x of a row that starts s words after the tile
-abbrev rowTexel : Tile → ℕ → ℕ → Bool → ℕ → ℕ → Reading
+abbrev pub rowTexel : Tile → ℕ → ℕ → Bool → ℕ → ℕ → Reading
 rowTexel t mode lane o s x = texel t mode lane o (8 * s + column t mode x) x
 
 module _ (t : Tile) (mode lane : ℕ) (o : Bool) (s n : ℕ) (b : List ℕ) (a : ℕ) (direct-mode : mode < 2)
@@ -276,7 +278,8 @@ module _ (t : Tile) (mode lane : ℕ) (o : Bool) (s n : ℕ) (b : List ℕ) (a :
       record {
         at = c / 2;
         inside = omega arith;
-        reads = rw (reads-of (c / 2), r, twice (c / 2)) (hits-pair (t .tmem-addr) o s a both (c / 2) (half c e (ℕ-discrete (c % 2) 0)));
+        reads =
+            rw (reads-of (c / 2), r, twice (c / 2)) (hits-pair (t .tmem-addr) o s a both (c / 2) (half c e (ℕ-discrete (c % 2) 0)));
       }))
     where
       half : (c : ℕ) → Hit both (t .tmem-addr) o s a c → Dec (c % 2 ≡ 0)
@@ -301,13 +304,21 @@ module _ (t : Tile) (mode lane : ℕ) (o : Bool) (s n : ℕ) (b : List ℕ) (a :
           two-bytes (isRgba32 (t .fmt) (t .siz)) (rw (le-ltb (t .siz) 2 (omega arith))) refl (rw (ne-eqb _ _ z, ne-eqb _ _ d))
           (λ x. column-of x ∙ rw (ne-eqb _ _ z, ne-eqb _ _ d))
 
+-- a row starts at a word
+pub start-bytes : (t : Tile) (y : ℕ) → rowStart t y ≡ 8 * (y % 256 * t .line)
+start-bytes t y = mul-left-comm (y % 256) 8 (t .line)
+
+pub start-word : (t : Tile) (y : ℕ) → rowStart t y / 8 ≡ y % 256 * t .line
+start-word t y = omega (arith, start-bytes t y)
+
 -- the words of row y are noted: so are its texels, as many as they have
 module _ (t : Tile) (mode lane y words : ℕ) (b seen u : List ℕ) (direct-mode : mode < 2)
     (pair : accepted mode (t .fmt) (t .siz) ≡ true) where
   pub row-noted : u ≡ noted seen (trail (directWords (isRgba32 (t .fmt) (t .siz)) (t .tmem-addr + rowStart t y / 8) words) [])
       → u ≡ noted seen (trail (upTo (wordTexels (t .siz) * words) (λ x. texel t mode lane (odd y) (rowStart t y + column t mode x) x)) b)
   row-noted e =
-      let s : ℕ = y % 256 * t .line in
-      let start : rowStart t y ≡ 8 * s = mul-left-comm (y % 256) 8 (t .line) in
-      let word : rowStart t y / 8 ≡ s = omega arith in
-      e ∙ noted-same seen _ _ (λ a. rw (word, start) (same-row t mode lane (odd y) s words b a direct-mode (accepted-direct mode _ _ direct-mode pair)))
+      let listed = accepted-direct mode _ _ direct-mode pair in
+      e
+      ∙ noted-same seen _ _
+      (λ a.
+      rw (start-word t y, start-bytes t y) (same-row t mode lane (odd y) (y % 256 * t .line) words b a direct-mode listed))

@@ -1,9 +1,12 @@
 -- The whole words of a row, as readings of their eight bytes.
 use mathlib.Core.Bool.{Bool, cond}
-use mathlib.Core.List.{[]}
+use mathlib.Core.List.{List, []}
 use Prim.Native.Nat.{ℕ, _+_, _*_, _%_}
 use lib.Dec.{eqb}
+use lib.ListN.{getD}
+use Rattle.rules.specs.Tile.{Tile}
 use Rattle.rules.specs.Reading.{Reading, give, ask, andThen, upTo}
+use Rattle.rules.specs.Picture.{index, entryAt}
 
 -- the texels of a row that a word has
 abbrev pub wordTexels : ℕ → ℕ
@@ -25,3 +28,18 @@ directWord both word =
 -- so many words from one on
 unfoldable pub directWords : Bool → ℕ → ℕ → Reading
 directWords both first words = upTo words (λ w. directWord both (first + w))
+
+-- the entries that an index byte stands for, in an even column and in an odd one
+unfoldable pub entriesOf : Tile → ℕ → ℕ → Reading
+entriesOf t lane byte =
+    let even : ℕ = entryAt (index t 0 byte) lane in
+    let odd : ℕ = entryAt (index t 1 byte) lane in
+    ask even (λ v. ask (even + 1) (λ v. ask odd (λ v. askOne (odd + 1))))
+
+-- a word of index bytes: their entries, and the bytes themselves
+unfoldable pub indexWord : Tile → ℕ → List ℕ → ℕ → Reading
+indexWord t lane bank at = andThen (upTo 8 (λ k. entriesOf t lane (getD bank (8 * at + k) 0))) (wordReading at)
+
+-- so many of them from one on, which wrap at the palette
+unfoldable pub indexWords : Tile → ℕ → List ℕ → ℕ → ℕ → Reading
+indexWords t lane bank first words = upTo words (λ w. indexWord t lane bank ((first + w) % 256))

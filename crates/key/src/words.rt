@@ -1,8 +1,8 @@
-// The whole words of a row of direct texels, noted eight bytes at a time. Their order does not show, so odd rows are as even ones.
+// The whole words of a row, noted eight bytes at a time. The order of notes does not show, so odd rows are as even ones.
 ghost use mathlib.Core.Path.{_≡_};
 ghost use mathlib.Core.Bool.{true};
 ghost use mathlib.Core.List.{[]};
-ghost use Prim.Native.Nat.{_+_, _*_, _<_, _≤_};
+ghost use Prim.Native.Nat.{_+_, _*_, _/_, _<_, _≤_};
 ghost use lib.ListN.{length};
 ghost use Rattle.rules.specs.Base.{odd};
 ghost use Rattle.rules.specs.Picture.{column, rowStart, texel};
@@ -12,16 +12,17 @@ ghost use Rattle.rules.specs.Tile.{InRange, bankSize, bankWords};
 ghost use Rattle.key.specs.Notes.{noted};
 ghost use Rattle.key.specs.Words.{wordTexels, wordReading, directWord, directWords};
 ghost use Rattle.rdp.specs.View.{tileOf};
+use crate::indices::note_whole_indices;
 use rdp::tile::TileDescriptor;
 use tmem::bank::Bank;
 
 // The words of the bank, and of each half.
 const WORDS: usize = Bank::SIZE / 8;
 
-const HALF_WORDS: usize = Bank::PALETTE_BASE / 8;
+pub(crate) const HALF_WORDS: usize = Bank::PALETTE_BASE / 8;
 
 // The eight bytes of a word are noted.
-fn note_word(notes: &mut [u8], at: usize)
+pub(crate) fn note_word(notes: &mut [u8], at: usize)
     requires { ⌜ length (now notes) ≡ bankSize ⌝ }
     requires { ⌜ at < bankWords ⌝ }
     ensures { λ _. ⌜ now (notes .exit) ≡ noted (now (notes .entry)) (trail (wordReading at) []) ⌝ }
@@ -67,7 +68,28 @@ fn word_texels(siz: u32) -> u32
     if siz == 1 { 8 } else { 4 }
 }
 
-// Row y of a plain picture as far as its texels fill whole words; the answer is how many do. None through the lookup table.
+// The whole words of a row: the first of them, how many there are, and how many texels they have.
+pub(crate) struct RowWords {
+    pub(crate) first: usize,
+    pub(crate) words: usize,
+    pub(crate) texels: u32,
+}
+
+pub(crate) fn row_words(tile: TileDescriptor, y: u32) -> RowWords
+    requires { ⌜ InRange (tileOf tile) ⌝ }
+    ensures { λ r. ⌜ (r .first ≡ tileOf tile .tmem-addr + rowStart (tileOf tile) y / 8) × (r .texels ≡ wordTexels (tile .siz) * r .words) ⌝ }
+    ensures { λ r. ⌜ (r .texels ≤ tile .width) × (r .first + r .words ≤ 2097152) ⌝ }
+{
+    let texels = word_texels(tile.siz);
+    let words = tile.width / texels;
+    RowWords {
+        first: tile.tmem_addr.0 as usize + tile.row_start(y) / 8,
+        words: words as usize,
+        texels: texels * words,
+    }
+}
+
+// Row y of a plain picture as far as its texels fill whole words; the answer is how many do.
 pub(crate) fn note_whole_words(
     bank: &[u8],
     notes: &mut [u8],
@@ -78,6 +100,7 @@ pub(crate) fn note_whole_words(
 ) -> u32
     requires { ⌜ (length (now bank) ≡ bankSize) × (length (now notes) ≡ bankSize) ⌝ }
     requires { ⌜ InRange (tileOf tile) ⌝ }
+    requires { ⌜ lane ≤ 3 ⌝ }
     requires { ⌜ accepted tlut (tile .fmt) (tile .siz) ≡ true ⌝ }
     ensures { λ r. ⌜ r ≤ tile .width ⌝ }
     ensures { λ r. ⌜ now (notes .exit) ≡ noted (now (notes .entry))
@@ -85,16 +108,14 @@ pub(crate) fn note_whole_words(
         (now (bank .entry))) ⌝ }
 {
     if 2 <= tlut {
-        return 0;
+        return note_whole_indices(bank, notes, tile, lane, y);
     }
-    let texels = word_texels(tile.siz);
-    let words = tile.width / texels;
-    let first = tile.tmem_addr.0 as usize + tile.row_start(y) / 8;
+    let row = row_words(tile, y);
     note_direct_words(
         notes,
         (tile.fmt == 0) & (tile.siz == 3),
-        first,
-        words as usize,
+        row.first,
+        row.words,
     );
-    texels * words
+    row.texels
 }

@@ -42,7 +42,7 @@ row-start-requires c κs = search needs
 note-whole-words-requires : tie.Need-note-whole-words-requires Inv-loop μ-loop
 note-whole-words-requires c κs =
     let p = c .before .before .before .before .pre in
-    (p .0, (p .1 .0, p .1 .1 .1))
+    (p .0, (p .1 .0, (p .1 .1 .0, p .1 .1 .1)))
 
 loop-holds : tie.Need-loop-holds Inv-loop μ-loop
 loop-holds c = (omega (arith, c .before .before .note-whole-words .ensures .0), λ s e. e, refl)
