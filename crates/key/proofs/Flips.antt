@@ -41,7 +41,7 @@ flipped-bytes a b h s i = go (ℕ-discrete i a)
     go (yes e) = rw (e, getD-set-same b a (255 - getD b a 0) 0 h) (omega arith)
     go (no e) = rw (getD-set-other b a i (255 - getD b a 0) 0 e) (s i)
 
-mem-cases : (a x : ℕ) (l : List ℕ) → mem a (x ∷ l) ≡ true → (a ≡ x) ⊎ (mem a l ≡ true)
+pub mem-cases : (a x : ℕ) (l : List ℕ) → mem a (x ∷ l) ≡ true → (a ≡ x) ⊎ (mem a l ≡ true)
 unfolding mem
 mem-cases a x l h = go (eqb a x) refl h
   where
@@ -49,7 +49,7 @@ mem-cases a x l h = go (eqb a x) refl h
     go true e h′ = inl (eqb-true a x e)
     go false e h′ = inr h′
 
-mem-none : (a : ℕ) → mem a [] ≡ true → ⊥
+pub mem-none : (a : ℕ) → mem a [] ≡ true → ⊥
 unfolding mem
 mem-none a h = true≢false (sym h)
 

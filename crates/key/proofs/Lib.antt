@@ -1,5 +1,7 @@
 -- Demand 3 as theorems, and the laws that the key's code is proved by.
 pub mod Notes
+pub mod WordLaws
+pub mod IndexLaws
 pub mod One
 pub mod Lift
 pub mod Flips

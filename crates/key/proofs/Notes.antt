@@ -52,7 +52,7 @@ module _ (s : List ℕ) (fmt siz base : ℕ) (odd : Bool) (rel p q : ℕ) (pair 
   unfolding noted readsBy
   two-noted t r h e palette x bank = rw (direct-trail fmt siz base palette odd rel x bank pair, r, le-ltb siz 2 h, e, first, second)
 
-note-at : (s l : List ℕ) (a : ℕ) → a < length s → getD (noted s l) a 0 ≡ cond (mem a l) 1 (getD s a 0)
+pub note-at : (s l : List ℕ) (a : ℕ) → a < length s → getD (noted s l) a 0 ≡ cond (mem a l) 1 (getD s a 0)
 unfolding noted mem
 note-at s [] a h = refl
 note-at s (b ∷ l) a h = note-at (set s b 1) l a (rw length-set h) ∙ go (ℕ-discrete a b)

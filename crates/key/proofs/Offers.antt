@@ -2,7 +2,7 @@
 use mathlib.Core.Path.{_≡_, refl, ap, sym, _∙_}
 use mathlib.Core.Bool.{Bool, true, false, not}
 use mathlib.Core.List.{List}
-use Prim.Native.Nat.{ℕ, _+_, _*_, _<_, _≤_}
+use Prim.Native.Nat.{ℕ, _+_, _<_, _≤_}
 use lib.Dec.{eqb}
 use lib.ListN.{getD}
 use borrow.Author.Tests.{eq-eqb}
@@ -16,9 +16,9 @@ use Rattle.rules.specs.Key.{key}
 use Rattle.rules.specs.Check.{Lowest, wrongAt, lowestWrong, wrongKind, said, checked}
 use Rattle.rules.proofs.Keys.{length-key, key-byte}
 use Rattle.rules.proofs.Check.{lowest-one, lowest-same, lowest-wrong}
-use Rattle.key.specs.Notes.{Notes}
+use Rattle.key.specs.Notes.{Notes, keptBy}
 use Rattle.key.specs.Offer.{Lent, wrongBy, taken, answeredAt}
-use Rattle.key.proofs.Cuts.{times-one}
+use Rattle.key.proofs.Cuts.{kept-by}
 
 -- f holds of none from i on and below a
 abbrev pub NoneBelow : (ℕ → Bool) → ℕ → ℕ → Type 0
@@ -57,11 +57,11 @@ found-after {i = i} {n = n} {a = a} m b l e h =
 -- By the notes of what the visible picture reads, the search is for the lowest address at which the offer is not the key.
 module _ (t : Tile) (mode lane : ℕ) (bank notes offer : List ℕ) (lent : Lent bank notes offer)
     (noted : Notes notes (trail (visiblePicture t mode lane) bank)) where
-  same-byte : (k : ℕ) → k < bankSize → getD bank k 0 * getD notes k 0 ≡ getD (key t mode lane bank) k 0
+  same-byte : (k : ℕ) → k < bankSize → keptBy (getD bank k 0) (getD notes k 0) ≡ getD (key t mode lane bank) k 0
   unfolding Notes key
   same-byte k h =
-      ap (λ n. getD bank k 0 * n) (noted k h)
-      ∙ times-one (getD bank k 0) (mem k (trail (visiblePicture t mode lane) bank))
+      ap (keptBy (getD bank k 0)) (noted k h)
+      ∙ kept-by (getD bank k 0) (mem k (trail (visiblePicture t mode lane) bank))
       ∙ sym (key-byte (visiblePicture t mode lane) bank k (lent .bank-whole))
 
   lowest-of-key : Lowest 0 bankSize (wrongAt (key t mode lane bank) offer) (lowestWrong (key t mode lane bank) offer)

@@ -7,8 +7,11 @@ ghost use Rattle.rules.specs.Refusal.{first};
 ghost use Rattle.rules.specs.Calls.{pairTests, checkCall};
 ghost use Rattle.rules.specs.Check.{Lowest, wrongKind, checked};
 ghost use Rattle.rules.specs.Tile.{bankSize};
-ghost use Rattle.key.specs.Offer.{Lent, rightBy, wrongBy, partSize, taken, answeredAt};
+ghost use Rattle.key.specs.Notes.{partSize};
+ghost use Rattle.key.specs.Offer.{Lent, rightBy, wrongBy, taken, answeredAt};
 ghost use Rattle.rdp.specs.View.{tileOf, checkAnswered};
+use crate::cut::PART;
+use crate::cut::kept_byte;
 use crate::key::key_refusal;
 use crate::key::note_picture;
 use crate::reads::no_notes;
@@ -25,16 +28,13 @@ const LEFT_OVER: u32 = 2;
 // or it has another value.
 const ANOTHER_VALUE: u32 = 3;
 
-// So many bytes are compared without a look at each: a part of the bank.
-const PART: usize = 64;
-
 // The offer has the key's byte at an address: the bank's where it is noted, else zero.
 fn is_right(bank: &[u8], notes: &[u8], offer: &[u8], at: usize) -> bool
     requires { ⌜ Lent (now bank) (now notes) (now offer) ⌝ }
     requires { ⌜ at < bankSize ⌝ }
     ensures { λ r. ⌜ r ≡ rightBy (now (bank .entry)) (now (notes .entry)) (now (offer .entry)) at ⌝ }
 {
-    bank[at] * notes[at] == offer[at]
+    kept_byte(bank[at], notes[at]) == offer[at]
 }
 
 // It has the key's bytes in a whole part. No byte ends the loop, so that the processor compares many at once.

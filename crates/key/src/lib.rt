@@ -2,6 +2,8 @@
 // byte for each address of the bank. And the check of a key that was made elsewhere.
 pub mod check;
 pub mod cut;
+mod indices;
 pub mod key;
 mod reads;
 mod rows;
+mod words;

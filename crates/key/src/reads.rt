@@ -34,7 +34,7 @@ pub(crate) fn no_notes() -> [u8; Bank::SIZE]
 }
 
 // Two addresses are noted.
-fn note_two(notes: &mut [u8], a: usize, b: usize)
+pub(crate) fn note_two(notes: &mut [u8], a: usize, b: usize)
     requires { ⌜ length (now notes) ≡ bankSize ⌝ }
     requires { ⌜ (a < bankSize) × (b < bankSize) ⌝ }
     ensures { λ _. ⌜ now (notes .exit) ≡ noted (now (notes .entry)) (a ∷ b ∷ []) ⌝ }
@@ -69,7 +69,7 @@ fn note_direct(notes: &mut [u8], fmt: u32, siz: u32, base: ByteAddr, odd: bool, 
 }
 
 // The address of the entry that a byte stands for.
-fn entry_at(tile: TileDescriptor, lane: u32, x: usize, byte: u8) -> ByteAddr
+pub(crate) fn entry_at(tile: TileDescriptor, lane: u32, x: usize, byte: u8) -> ByteAddr
     requires { ⌜ InRange (tileOf tile) ⌝ }
     requires { ⌜ lane ≤ 3 ⌝ }
     ensures { λ r. ⌜ r .0 ≡ entryAt (index (tileOf tile) x byte) lane ⌝ }

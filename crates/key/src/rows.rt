@@ -9,7 +9,10 @@ ghost use Rattle.rules.specs.Reading.{trail, upTo};
 ghost use Rattle.rules.specs.Picture.{plainRow, lookupRow, lookup};
 ghost use Rattle.key.specs.Notes.{noted};
 ghost use Rattle.rdp.specs.View.{tileOf};
+use crate::indices::note_index_words;
 use crate::reads::note_texel;
+use crate::words::HALF_WORDS;
+use crate::words::note_whole_words;
 use rdp::tile::TileDescriptor;
 use tmem::bank::Bank;
 
@@ -24,7 +27,8 @@ fn note_plain_row(bank: &[u8], notes: &mut [u8], tile: TileDescriptor, tlut: u32
     let start = tile.row_start(y);
     let odd = y % 2 == 1;
     let width = tile.width;
-    for x in 0..width {
+    let from = note_whole_words(bank, notes, tile, tlut, lane, y);
+    for x in from..width {
         note_texel(
             bank,
             notes,
@@ -82,7 +86,7 @@ fn note_lookup_row(
     }
 }
 
-// A lookup.
+// A lookup. Through the lookup table it reads every index byte, in columns of both parities.
 pub(crate) fn note_lookup(bank: &[u8], notes: &mut [u8], tile: TileDescriptor, tlut: u32, lane: u32)
     requires { ⌜ (length (now bank) ≡ bankSize) × (length (now notes) ≡ bankSize) ⌝ }
     requires { ⌜ InRange (tileOf tile) ⌝ }
@@ -90,6 +94,10 @@ pub(crate) fn note_lookup(bank: &[u8], notes: &mut [u8], tile: TileDescriptor, t
     requires { ⌜ accepted tlut (tile .fmt) (tile .siz) ≡ true ⌝ }
     ensures { λ _. ⌜ now (notes .exit) ≡ noted (now (notes .entry)) (trail (lookup (tileOf tile) tlut lane) (now (bank .entry))) ⌝ }
 {
+    if 2 <= tlut {
+        note_index_words(bank, notes, tile, lane, 0, HALF_WORDS);
+        return;
+    }
     for r in 0..4 {
         note_lookup_row(bank, notes, tile, tlut, lane, r);
     }

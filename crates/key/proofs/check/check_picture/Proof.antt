@@ -4,7 +4,6 @@ use Prim.Native.Nat.{ℕ}
 use lib.ListN.{length, length-replicate}
 use borrow.Author.Needs.{needs}
 use Rattle.key.specs.Offer.{Lent}
-use Rattle.key.proofs.Notes.{note-small}
 use Rattle.key.proofs.Offers.{checked-by-notes}
 use Rattle.key.proofs.check.check_picture.Statement.{statement}
 use Rattle.key.proofs.check.check_picture.Tie as tie
@@ -21,7 +20,7 @@ note-picture-requires c κs = search needs
 slice-aggregate-lowest-wrong : tie.Need-slice-aggregate-lowest-wrong
 slice-aggregate-lowest-wrong c = search needs
 
--- the notes have their length and are 0 or 1
+-- the notes have their length
 lent : (n : tie.After-note-picture) → let a = n .before .before .before .before .before .args in
     Lent (a .bank .now) (n .note-picture .last .1 .0) (a .offer .now)
 lent n =
@@ -32,7 +31,6 @@ lent n =
       bank-whole = p .0 .0;
       notes-whole = whole;
       offer-whole = p .0 .1;
-      small = note-small _ _ whole (n .note-picture .ensures);
     }
 
 lowest-wrong-requires : tie.Need-lowest-wrong-requires
