@@ -661,8 +661,8 @@ impl Bench {
 
     fn conclude(&self) {
         println!(
-            "\nGoals: {} for pictures alone and with the trail, as the last of them for lookups, {GOAL_LOADS} for loads, {} for keys, {GOAL_CHECKS} for checks \
-             beside keys, {GOAL_SPLITS} for splits and {} ms, {GOAL} for the others. Above them: {}.",
+            "\nGoals: {} for pictures alone and with the trail, as the last of them for lookups, {GOAL_LOADS} for loads, {} \
+             for keys, {GOAL_CHECKS} for checks beside keys, {GOAL_SPLITS} for splits and {} ms, {GOAL} for the others. Above them: {}.",
             GOAL_PICTURES.map(|(side, (alone, trail))| format!("{alone} and {trail} at {side} by {side}")).join(", "),
             GOAL_KEYS.map(|(side, goal)| format!("{goal} at {side} by {side}")).join(", "),
             SPLIT_MOST / 1e6,

@@ -41,7 +41,8 @@ loop-holds c =
     let b = c .blank-fours .ensures in (
       b .0,
       none-all (reason-search _) _ _ (fours-blank (s .args .reasons .now) (tileOf (s .args .tile)) (s .args .tlut)
-          (omega (arith, p .1 .1 .0, p .1 .1 .1)) (λ i. omega (arith, o .before .before .shared-slice-known .given i)) (c .blank-fours .result) _
+          (omega (arith, p .1 .1 .0, p .1 .1 .1)) (λ i. omega (arith, o .before .before .shared-slice-known .given i))
+          (c .blank-fours .result) _
           (omega arith) (rw (← o .of-row .ensures .1 .1) (b .1))),
     )
 

@@ -26,23 +26,26 @@ first false rest true = refl
 first false rest false = refl
 
 -- where neither axis repeats past its size
-module _ (t : Tile) (mode : ℕ) (p : pastSize (t .cms) (t .masks) (t .width) ≡ false) (q : pastSize (t .cmt) (t .maskt) (t .height) ≡ false) where
-  abbrev tall : Bool
-  tall = ltb 256 (t .height) && odd (t .line)
+module _ (t : Tile) (mode : ℕ)
+    (p : pastSize (t .cms) (t .masks) (t .width) ≡ false)
+    (q : pastSize (t .cmt) (t .maskt) (t .height) ≡ false)
+  where
+    abbrev tall : Bool
+    tall = ltb 256 (t .height) && odd (t .line)
 
-  abbrev rest : Bool
-  rest = not (isRgba32 (t .fmt) (t .siz))
+    abbrev rest : Bool
+    rest = not (isRgba32 (t .fmt) (t .siz))
 
-  abbrev yuv : Bool
-  yuv = eqb (t .fmt) 1
+    abbrev yuv : Bool
+    yuv = eqb (t .fmt) 1
 
-  with-palette : 2 ≤ mode → yuv ≡ flag t mode
-  unfolding flag
-  with-palette h = rw (p, q, le-ltb mode 2 h, le-leb 2 mode h) (second tall rest yuv)
+    with-palette : 2 ≤ mode → yuv ≡ flag t mode
+    unfolding flag
+    with-palette h = rw (p, q, le-ltb mode 2 h, le-leb 2 mode h) (second tall rest yuv)
 
-  without-palette : mode < 2 → (tall && rest) ≡ flag t mode
-  unfolding flag
-  without-palette h = rw (p, q, lt-ltb mode 2 h, lt-leb 2 mode h) (first tall rest yuv)
+    without-palette : mode < 2 → (tall && rest) ≡ flag t mode
+    unfolding flag
+    without-palette h = rw (p, q, lt-ltb mode 2 h, lt-leb 2 mode h) (first tall rest yuv)
 
 past-size-requires : tie.Need-past-size-requires
 past-size-requires c κs = search needs
@@ -64,14 +67,16 @@ returns-3 : tie.Need-returns-3
 returns-3 c =
     let d = c .before .before in
     let e = d .before .before in
-    with-palette _ _ (sym (e .before .past-size .ensures) ∙ e .if1 .left) (sym (d .before .past-size2 .ensures) ∙ d .if2 .left) (c .before .if3 .taken)
+    with-palette _ _ (sym (e .before .past-size .ensures) ∙ e .if1 .left) (sym (d .before .past-size2 .ensures) ∙ d .if2 .left)
+    (c .before .if3 .taken)
 
 returns-4 : tie.Need-returns-4
 returns-4 c =
     let f = c .before .before .before .before in
     let d = f .before in
     let e = d .before .before in
-    without-palette _ _ (sym (e .before .past-size .ensures) ∙ e .if1 .left) (sym (d .before .past-size2 .ensures) ∙ d .if2 .left) (f .if3 .left)
+    without-palette _ _ (sym (e .before .past-size .ensures) ∙ e .if1 .left) (sym (d .before .past-size2 .ensures) ∙ d .if2 .left)
+    (f .if3 .left)
 
 pub is-lookup-spec : {M : Type 1} → statement M
 is-lookup-spec =
