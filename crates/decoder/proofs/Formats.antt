@@ -180,3 +180,23 @@ module _ (t : Tile) (mode kind : ℕ) (k : kind ≡ kindOf t mode) where
       go : Dec (mode < 2) → mode < 2
       go (yes p) = p
       go (no p) = let q : 2 ≤ mode = omega arith in part (eqb (t .siz) 0) (eqb (t .fmt) 1) (rw (le-leb 2 mode q) at k)
+
+  pub kind-entry : 2 ≤ mode → 32 ≤ kind
+  kind-entry m = part (eqb (t .siz) 0) (eqb (t .fmt) 1) (rw (le-leb 2 mode m) at k)
+    where
+      part : (s f : Bool) → kind ≡ cond s (cond f 34 33) 32 → 32 ≤ kind
+      part true true e = omega arith
+      part true false e = omega arith
+      part false f e = omega arith
+
+  pub kind-below : InRange t → kind < 64
+  kind-below i = go (decLt mode 2)
+    where
+      part : (s f : Bool) → kind ≡ cond s (cond f 34 33) 32 → kind < 64
+      part true true e = omega arith
+      part true false e = omega arith
+      part false f e = omega arith
+
+      go : Dec (mode < 2) → kind < 64
+      go (yes p) = let e = rw (lt-leb 2 mode p) at k in omega (arith, e, i .fmt, i .siz)
+      go (no p) = let q : 2 ≤ mode = omega arith in part (eqb (t .siz) 0) (eqb (t .fmt) 1) (rw (le-leb 2 mode q) at k)

@@ -2,7 +2,7 @@
 use mathlib.Core.Path.{_≡_, refl}
 use mathlib.Core.Bool.{Bool, true, false}
 use mathlib.Core.List.{List}
-use Prim.Native.Nat.{ℕ, _*_, _/_, _≤_}
+use Prim.Native.Nat.{ℕ, _*_, _/_, _%_, _≤_}
 use native.Mathlib.Nat.{mul-assoc, zero-mul}
 use native.Mathlib.Omega.{arith}
 use lib.ListN.{length}
@@ -84,8 +84,8 @@ allowed false looked bank t mode lane out seen h =
 
 -- and the plan of such a call is ready
 pub ready : (tile : TileDescriptor) (mode lane each : ℕ) (observe looked : Bool) (bank table out seen : List ℕ) (kind : ℕ)
-    → Allowed observe looked bank (tileOf tile) mode lane out seen → TexelTable (tileOf tile) mode lane bank table
-    → kind ≡ kindOf (tileOf tile) mode → each ≡ readsEach (tileOf tile) mode
+    → Allowed observe looked bank (tileOf tile) mode lane out seen → TexelTable (tileOf tile) mode lane bank table kind
+    → kind % 64 ≡ kindOf (tileOf tile) mode → each ≡ readsEach (tileOf tile) mode
     → Ready bank table (planBy tile mode lane looked observe each) kind
 ready tile mode lane each observe looked bank table out seen kind a tableIs kindIs e =
     let i = a .early .tile in

@@ -65,9 +65,9 @@ trailStep observe t mode = cond observe (2 * readsEach t mode) 0
 -- are as a texel takes them
 pub record Ready (bank texels : List ℕ) (p : Plan) (k : ℕ) : Type 0 where
   pub whole : length bank ≡ 4096
-  pub table : TexelTable (tileOf (p .tile)) (p .«tlut_fmt») (p .lane) bank texels
+  pub table : TexelTable (tileOf (p .tile)) (p .«tlut_fmt») (p .lane) bank texels k
   pub inside : InRange (tileOf (p .tile))
-  pub kind : k ≡ kindOf (tileOf (p .tile)) (p .«tlut_fmt»)
+  pub kind : k % 64 ≡ kindOf (tileOf (p .tile)) (p .«tlut_fmt»)
   pub knows : stepKnows (p .«tlut_fmt») (p .tile .fmt) (p .tile .siz) ≡ true
   pub slot : p .lane ≤ 3
   pub narrow : p .width ≤ 4096

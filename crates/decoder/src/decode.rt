@@ -6,14 +6,14 @@ ghost use Rattle.rdp.specs.View.{tileOf, answered};
 ghost use Rattle.decoder.specs.Asked.{planBy, outcomeBy};
 use crate::format::kind_of;
 use crate::format::tile_reads;
+use crate::paint::paint;
+use crate::paint::table_kind;
 use crate::plan::Plan;
 use crate::refused::first_refusal;
-use crate::rows::decode_rows;
 use crate::sizes::row_count;
 use crate::sizes::row_width;
 use crate::sizes::texel_count;
 use crate::sizes::trail_step;
-use crate::table::texel_table;
 use rdp::answer::Answer;
 use rdp::tile::TileDescriptor;
 
@@ -63,11 +63,11 @@ pub(crate) fn decode_picture(
         };
     }
     let each = tile_reads(tile, tlut_fmt);
-    let reads = each * texel_count(tile, lookup);
+    let texels = texel_count(tile, lookup);
+    let reads = each * texels;
     let plan = plan_of(tile, tlut_fmt, lane, lookup, observe, each);
-    let table = texel_table(bank, tile, tlut_fmt, lane);
-    let kind = kind_of(tile, tlut_fmt);
-    decode_rows(bank, &table, plan, kind, out, seen);
+    let kind = table_kind(kind_of(tile, tlut_fmt), texels);
+    paint(bank, plan, kind, out, seen);
     Answer {
         refusal: 0,
         count: reads as u32,

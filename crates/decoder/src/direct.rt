@@ -1,7 +1,7 @@
 // A texel without a lookup table.
 ghost use mathlib.Core.Path.{_≡_};
 ghost use Prim.Native.Nat.{_+_, _*_, _<_, _≤_};
-ghost use Rattle.rules.specs.Texdec.{rgba32, same4, nibble, ia8Table};
+ghost use Rattle.rules.specs.Texdec.{rgba32, same4, nibble, ia8Texel};
 ghost use Rattle.rules.specs.Picture.{direct, formatReads};
 ghost use Rattle.decoder.specs.Steps.{formatAt, Decodes};
 use crate::format::CI4;
@@ -18,7 +18,6 @@ use crate::texel::Texel;
 use rdp::units::ByteAddr;
 use texdec::entry::decode_ia16_entry;
 use texdec::entry::decode_rgba16_entry;
-use texdec::ia8::texel_bytes;
 use texdec::nibble::decode_i4;
 use texdec::nibble::decode_ia4;
 use texdec::nibble::nibble;
@@ -73,7 +72,6 @@ fn two_byte_texel(
 // A texel of one byte: an index of 4 bits, IA4, IA8, I4, or, of 8 bits, an index or I8.
 fn one_byte_texel(
     bank: &[u8],
-    ia8: &[u32; 256],
     place: u32,
     base: ByteAddr,
     palette: u32,
@@ -85,7 +83,6 @@ fn one_byte_texel(
     requires { ⌜ base .0 ≤ 34359738367 ⌝ }
     requires { ⌜ palette ≤ 15 ⌝ }
     requires { ⌜ rel < 4294967296 ⌝ }
-    requires { ⌜ now ia8 ≡ ia8Table ⌝ }
     ensures { λ r. ⌜ Decodes (direct (formatAt place) (base .0) palette odd rel x) (now (bank .entry)) r ⌝ }
 {
     let load = load_byte(bank, base, rel, odd);
@@ -93,7 +90,7 @@ fn one_byte_texel(
     let channels = match place {
         CI4 => ci4_texel(palette, x, byte),
         IA4 => decode_ia4(x, byte),
-        IA8 => texel_bytes(ia8[byte as usize]),
+        IA8 => ia8_texel(byte),
         I4 => decode_i4(x, byte),
         _ => [byte, byte, byte, byte],
     };
@@ -113,10 +110,18 @@ pub(crate) fn ci4_texel(palette: u32, x: usize, byte: u8) -> [u8; 4]
     [i, i, i, i]
 }
 
+// The IA8 texel of a byte: its nibbles are those of two I4 texels.
+pub(crate) fn ia8_texel(byte: u8) -> [u8; 4]
+    ensures { λ r. ⌜ r ≡ ia8Texel byte ⌝ }
+{
+    let i = decode_i4(0, byte);
+    let a = decode_i4(1, byte);
+    [i[0], i[0], i[0], a[0]]
+}
+
 // The texel of the format at a place. Of one that the step does not know it reads and gives nothing.
 pub(crate) fn direct_texel(
     bank: &[u8],
-    ia8: &[u32; 256],
     place: u32,
     base: ByteAddr,
     palette: u32,
@@ -127,12 +132,11 @@ pub(crate) fn direct_texel(
     requires { ⌜ base .0 ≤ 34359738367 ⌝ }
     requires { ⌜ palette ≤ 15 ⌝ }
     requires { ⌜ rel < 4294967296 ⌝ }
-    requires { ⌜ now ia8 ≡ ia8Table ⌝ }
     ensures { λ r. ⌜ Decodes (direct (formatAt place) (base .0) palette odd rel x) (now (bank .entry)) r ⌝ }
 {
     let reads = format_reads(place);
     match reads {
-        1 => one_byte_texel(bank, ia8, place, base, palette, rel, odd, x),
+        1 => one_byte_texel(bank, place, base, palette, rel, odd, x),
         2 => two_byte_texel(bank, place, base, palette, rel, odd, x),
         4 => rgba32_texel(bank, base, palette, rel, odd, x),
         _ => Texel {

@@ -6,6 +6,9 @@ ghost use Rattle.rules.specs.Picture.{formatReads, readsEach};
 ghost use Rattle.rdp.specs.View.{tileOf};
 ghost use Rattle.decoder.specs.Steps.{formatAt, kindOf};
 use rdp::tile::TileDescriptor;
+use texdec::palette::HIGH_NIBBLE;
+use texdec::palette::NIBBLE;
+use texdec::palette::WHOLE_BYTE;
 use texdec::palette::index_part;
 
 // The pairs that the texel step knows, each by its format and size. A 16-bit index has two sizes.
@@ -30,6 +33,26 @@ pub(crate) const IA16: u32 = 4 * 3 + 2;
 pub(crate) const I4: u32 = 4 * 4 + 0;
 
 pub(crate) const I8: u32 = 4 * 4 + 1;
+
+// A kind whose texels are taken from a table has a number above those without one, by so many. With READY the table has the whole
+// texel, or, of RGBA16, its halves; with HALVES it has the halves of the lookup table's entries, which are read from the bank.
+pub(crate) const READY: u32 = 64;
+
+pub(crate) const HALVES: u32 = 128;
+
+pub(crate) const READY_RGBA16: u32 = READY + RGBA16;
+
+pub(crate) const READY_IA4: u32 = READY + IA4;
+
+pub(crate) const READY_IA8: u32 = READY + IA8;
+
+pub(crate) const READY_WHOLE_BYTE: u32 = READY + WHOLE_BYTE;
+
+pub(crate) const READY_NIBBLE: u32 = READY + NIBBLE;
+
+pub(crate) const READY_HIGH_NIBBLE: u32 = READY + HIGH_NIBBLE;
+
+pub(crate) const HALVES_WHOLE_BYTE: u32 = HALVES + WHOLE_BYTE;
 
 // The kind of a tile's texels in a mode: with a lookup table the part of a byte that an index is, else the pair's place.
 pub(crate) fn kind_of(tile: TileDescriptor, tlut_fmt: u32) -> u32

@@ -10,21 +10,22 @@ use crate::format::CI4;
 use crate::format::CI8;
 use crate::format::CI16;
 use crate::format::CI16_OF_SIZE_3;
+use crate::format::HALVES_WHOLE_BYTE;
 use crate::format::I4;
 use crate::format::I8;
-use crate::format::IA4;
-use crate::format::IA8;
 use crate::format::IA16;
-use crate::format::RGBA16;
+use crate::format::READY_HIGH_NIBBLE;
+use crate::format::READY_IA4;
+use crate::format::READY_IA8;
+use crate::format::READY_NIBBLE;
+use crate::format::READY_RGBA16;
+use crate::format::READY_WHOLE_BYTE;
 use crate::format::RGBA32;
 use crate::place::Row;
 use crate::place::row_at;
 use crate::plan::Plan;
 use crate::texel::decode_texel_lane;
 use crate::trail::note_reads;
-use texdec::palette::HIGH_NIBBLE;
-use texdec::palette::NIBBLE;
-use texdec::palette::WHOLE_BYTE;
 use tmem::bank::Bank;
 
 // Four channels go to the front of the picture.
@@ -41,7 +42,7 @@ pub(crate) fn put_channels(channels: [u8; 4], out: &mut [u8])
 // Texel i of a row goes to the front of the picture, and its reads to the front of the trail if it is observed.
 fn put_texel(
     bank: &[u8],
-    table: &[u32; 256],
+    table: &[u32],
     plan: Plan,
     kind: u32,
     observe: bool,
@@ -74,7 +75,7 @@ fn put_texel(
 // A row, from the front of picture and trail on.
 fn decode_row(
     bank: &[u8],
-    table: &[u32; 256],
+    table: &[u32],
     plan: Plan,
     kind: u32,
     observe: bool,
@@ -113,7 +114,7 @@ fn decode_row(
 // each, and joins no two of them.
 fn decode_named_row(
     bank: &[u8],
-    table: &[u32; 256],
+    table: &[u32],
     plan: Plan,
     kind: u32,
     row: Row,
@@ -135,10 +136,10 @@ fn decode_named_row(
     decode_row(bank, table, plan, kind, false, 0, row, out, seen);
 }
 
-// A row through the lookup table.
-fn decode_paletted_row(
+// A row of its kind. The kinds of small pictures that have no loop of their own share the last.
+fn paint_row(
     bank: &[u8],
-    table: &[u32; 256],
+    table: &[u32],
     plan: Plan,
     kind: u32,
     row: Row,
@@ -146,7 +147,6 @@ fn decode_paletted_row(
     seen: &mut [u8],
 )
     requires { ⌜ Ready (now bank) (now table) plan kind ⌝ }
-    requires { ⌜ 2 ≤ plan .«tlut_fmt» ⌝ }
     requires { ⌜ RowBounds row ⌝ }
     requires { ⌜ 4 * plan .width ≤ length (now out) ⌝ }
     requires { ⌜ plan .step * plan .width ≤ length (now seen) ⌝ }
@@ -155,75 +155,39 @@ fn decode_paletted_row(
         ≡ over (told (plan .observe) (trail (oneRow plan row) (now (bank .entry)))) (now (seen .entry)) ⌝ }
 {
     match kind {
-        WHOLE_BYTE => decode_named_row(bank, table, plan, WHOLE_BYTE, row, out, seen),
-        NIBBLE => decode_named_row(bank, table, plan, NIBBLE, row, out, seen),
-        _ => decode_named_row(bank, table, plan, HIGH_NIBBLE, row, out, seen),
-    }
-}
-
-// A row without one.
-fn decode_direct_row(
-    bank: &[u8],
-    table: &[u32; 256],
-    plan: Plan,
-    kind: u32,
-    row: Row,
-    out: &mut [u8],
-    seen: &mut [u8],
-)
-    requires { ⌜ Ready (now bank) (now table) plan kind ⌝ }
-    requires { ⌜ plan .«tlut_fmt» < 2 ⌝ }
-    requires { ⌜ RowBounds row ⌝ }
-    requires { ⌜ 4 * plan .width ≤ length (now out) ⌝ }
-    requires { ⌜ plan .step * plan .width ≤ length (now seen) ⌝ }
-    ensures { λ _. ⌜ now (out .exit) ≡ over (given (oneRow plan row) (now (bank .entry))) (now (out .entry)) ⌝ }
-    ensures { λ _. ⌜ now (seen .exit)
-        ≡ over (told (plan .observe) (trail (oneRow plan row) (now (bank .entry)))) (now (seen .entry)) ⌝ }
-{
-    match kind {
-        RGBA16 => decode_named_row(bank, table, plan, RGBA16, row, out, seen),
         RGBA32 => decode_named_row(bank, table, plan, RGBA32, row, out, seen),
         CI4 => decode_named_row(bank, table, plan, CI4, row, out, seen),
         CI8 => decode_named_row(bank, table, plan, CI8, row, out, seen),
         CI16 => decode_named_row(bank, table, plan, CI16, row, out, seen),
         CI16_OF_SIZE_3 => decode_named_row(bank, table, plan, CI16_OF_SIZE_3, row, out, seen),
-        IA4 => decode_named_row(bank, table, plan, IA4, row, out, seen),
-        IA8 => decode_named_row(bank, table, plan, IA8, row, out, seen),
         IA16 => decode_named_row(bank, table, plan, IA16, row, out, seen),
         I4 => decode_named_row(bank, table, plan, I4, row, out, seen),
-        _ => decode_named_row(bank, table, plan, I8, row, out, seen),
+        I8 => decode_named_row(bank, table, plan, I8, row, out, seen),
+        READY_RGBA16 => decode_named_row(bank, table, plan, READY_RGBA16, row, out, seen),
+        READY_IA4 => decode_named_row(bank, table, plan, READY_IA4, row, out, seen),
+        READY_IA8 => decode_named_row(bank, table, plan, READY_IA8, row, out, seen),
+        READY_WHOLE_BYTE => decode_named_row(bank, table, plan, READY_WHOLE_BYTE, row, out, seen),
+        READY_NIBBLE => decode_named_row(bank, table, plan, READY_NIBBLE, row, out, seen),
+        READY_HIGH_NIBBLE => decode_named_row(bank, table, plan, READY_HIGH_NIBBLE, row, out, seen),
+        HALVES_WHOLE_BYTE => decode_named_row(bank, table, plan, HALVES_WHOLE_BYTE, row, out, seen),
+        _ => decode_row(
+            bank,
+            table,
+            plan,
+            kind,
+            plan.observe,
+            plan.step,
+            row,
+            out,
+            seen,
+        ),
     }
-}
-
-// A row, with a lookup table or without.
-fn paint_row(
-    bank: &[u8],
-    table: &[u32; 256],
-    plan: Plan,
-    kind: u32,
-    row: Row,
-    out: &mut [u8],
-    seen: &mut [u8],
-)
-    requires { ⌜ Ready (now bank) (now table) plan kind ⌝ }
-    requires { ⌜ RowBounds row ⌝ }
-    requires { ⌜ 4 * plan .width ≤ length (now out) ⌝ }
-    requires { ⌜ plan .step * plan .width ≤ length (now seen) ⌝ }
-    ensures { λ _. ⌜ now (out .exit) ≡ over (given (oneRow plan row) (now (bank .entry))) (now (out .entry)) ⌝ }
-    ensures { λ _. ⌜ now (seen .exit)
-        ≡ over (told (plan .observe) (trail (oneRow plan row) (now (bank .entry)))) (now (seen .entry)) ⌝ }
-{
-    if 2 <= plan.tlut_fmt {
-        decode_paletted_row(bank, table, plan, kind, row, out, seen);
-        return;
-    }
-    decode_direct_row(bank, table, plan, kind, row, out, seen);
 }
 
 // All rows. Row y is written through the part of the picture from 4 times width times y on, and of the trail likewise.
 pub(crate) fn decode_rows(
     bank: &[u8],
-    table: &[u32; 256],
+    table: &[u32],
     plan: Plan,
     kind: u32,
     out: &mut [u8],

@@ -4,12 +4,12 @@ ghost use mathlib.Core.Bool.{true};
 ghost use Prim.Native.Nat.{_+_, _<_, _≤_};
 ghost use lib.ListN.{length, getD};
 ghost use Rattle.rules.specs.Reading.{given};
-ghost use Rattle.rules.specs.Texdec.{ia8Texel};
 ghost use Rattle.rules.specs.Linear.{linearTexel};
 ghost use Rattle.rules.specs.Picture.{formatReads};
 ghost use Rattle.decoder.specs.Steps.{formatAt};
 ghost use Rattle.decoder.specs.Linear.{byteOf, SourceRow};
 use crate::direct::ci4_texel;
+use crate::direct::ia8_texel;
 use crate::format::CI4;
 use crate::format::I4;
 use crate::format::IA4;
@@ -34,15 +34,6 @@ fn source_byte(source: &[u8], whole: bool, at: usize) -> u8
     } else {
         byte_at(source, at)
     }
-}
-
-// The IA8 texel of a byte: its nibbles are those of two I4 texels.
-fn ia8_texel(byte: u8) -> [u8; 4]
-    ensures { λ r. ⌜ r ≡ ia8Texel byte ⌝ }
-{
-    let i = decode_i4(0, byte);
-    let a = decode_i4(1, byte);
-    [i[0], i[0], i[0], a[0]]
 }
 
 // The byte of its row that a texel of one byte stands in: two of four bits share one.

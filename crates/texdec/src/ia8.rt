@@ -1,7 +1,6 @@
 // The texels of the IA8 format, as a table, whose rule is proved once, over all of its entries.
 ghost use mathlib.Core.Path.{_≡_};
-ghost use mathlib.Core.List.{[], _∷_};
-ghost use Rattle.rules.specs.Texdec.{channels, ready, ia8Table};
+ghost use Rattle.rules.specs.Texdec.{channels, ia8Table};
 
 // The four channels of each byte, red in the lowest eight bits and alpha in the highest.
 const IA8: [u32; 256] = [
@@ -273,14 +272,6 @@ pub fn texel_bytes(texel: u32) -> [u8; 4]
         ((texel >> 16) % 256) as u8,
         ((texel >> 24) % 256) as u8,
     ]
-}
-
-// The ready texel of four channels, which has them.
-pub fn texel_of(red: u8, green: u8, blue: u8, alpha: u8) -> u32
-    ensures { λ r. ⌜ r ≡ ready (red ∷ green ∷ blue ∷ alpha ∷ []) ⌝ }
-    ensures { λ r. ⌜ channels r ≡ red ∷ green ∷ blue ∷ alpha ∷ [] ⌝ }
-{
-    alpha as u32 * 16777216 + blue as u32 * 65536 + green as u32 * 256 + red as u32
 }
 
 // The table, for a caller that reads many texels of it: a constant is written out anew wherever it is used.

@@ -1,6 +1,7 @@
 -- `decoder::decode::decode_picture` answers and leaves what the call's outcome says: refused, or the rows written and their reads counted.
 use Rattle.decoder.proofs.Outcomes.{refused, done}
 use Rattle.decoder.proofs.Within.{Allowed, allowed, ready}
+use Rattle.decoder.proofs.Formats.{kind-below}
 use Rattle.decoder.specs.Asked.{testsBy}
 use Rattle.rdp.specs.View.{tileOf}
 use Rattle.rules.specs.Tile.{sideLimit}
@@ -58,25 +59,29 @@ mul-reads c = omega (arith, few c)
 plan-of-requires : tie.Need-plan-of-requires
 plan-of-requires c κs = search needs
 
-texel-table-requires : tie.Need-texel-table-requires
-texel-table-requires c κs = may (c .before .before .before) .early .tile
-
 kind-of-requires : tie.Need-kind-of-requires
-kind-of-requires c κs = may (c .before .before .before .before) .early .tile
+kind-of-requires c κs = may (c .before .before .before) .early .tile
 
-decode-rows-requires : tie.Need-decode-rows-requires
-decode-rows-requires c κs =
-    let l = c .before .before .before .before .before in
+table-kind-requires : tie.Need-table-kind-requires
+table-kind-requires c κs =
+    let e = c .before .before .before .before in
+    let a = e .before .before .before .before .before .before .before .args in
+    kind-below (tileOf (a .tile)) (a .«tlut-fmt») _ (c .kind-of .ensures) (may e .early .tile)
+
+paint-requires : tie.Need-paint-requires
+paint-requires c κs =
+    let k = c .before .before in
+    let l = k .before .before in
     let w = may (l .before .before .before) in
     let reads = each (l .before) in
+    let kind = k .table-kind .ensures .0 ∙ k .before .kind-of .ensures in
     rw (l .plan-of .ensures) (
-      ready _ _ _ _ _ _ _ _ _ _ _ w (c .before .before .before .before .texel-table .ensures)
-          (c .before .before .before .kind-of .ensures) reads,
-      (w .room, rw reads (w .trail-room)),
+      λ table h. ready _ _ _ _ _ _ _ table _ _ _ w h kind reads,
+      (k .table-kind .ensures .1, (w .early .tile, (w .room, rw reads (w .trail-room)))),
     )
 
-cast-t28 : tie.Need-cast-t28
-cast-t28 c = omega (arith, few (c .before .before .before .before .before .before .before .before .before .before .before))
+cast-t20 : tie.Need-cast-t20
+cast-t20 c = omega (arith, few (c .before .before .before .before .before .before .before .before .before .before))
 
 same-length-3 : tie.Need-same-length-3
 same-length-3 c = search needs
@@ -87,14 +92,14 @@ same-length-4 c = search needs
 returns-2 : tie.Need-returns-2
 returns-2 c =
     let d = c .before .before .before .before in
-    let l = d .before .before .before .before .before .before in
+    let l = d .before .before .before .before .before in
     let n = l .before in
     let a = n .before .before .before .before .before .before .before .before .before .args in
     done (a .lookup) (a .bank .now) (tileOf (a .tile)) (a .«tlut-fmt») (a .lane) (a .out .now) (a .seen .now) (a .observe) _ _ _
     (none (n .before .before))
     (rw (each n, n .texel-count .ensures .0))
-    (rw (l .plan-of .ensures) at (d .decode-rows .ensures .0))
-    (rw (l .plan-of .ensures) at (d .decode-rows .ensures .1))
+    (rw (l .plan-of .ensures) at (d .paint .ensures .0))
+    (rw (l .plan-of .ensures) at (d .paint .ensures .1))
 
 pub decode-picture-spec : {M : Type 1} → statement M
 decode-picture-spec =
@@ -108,10 +113,10 @@ decode-picture-spec =
     texel-count-requires
     mul-reads
     plan-of-requires
-    texel-table-requires
     kind-of-requires
-    decode-rows-requires
-    cast-t28
+    table-kind-requires
+    paint-requires
+    cast-t20
     same-length-3
     same-length-4
     returns-2)

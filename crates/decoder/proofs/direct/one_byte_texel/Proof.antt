@@ -1,6 +1,5 @@
 -- `decoder::direct::one_byte_texel` has the rule's channels of the byte that it loads, format by format. Assumes nothing.
 use Rattle.decoder.proofs.Formats.{one-else}
-use Rattle.texdec.proofs.Ready.{ia8-at}
 use Rattle.rules.specs.Picture.{direct}
 use Rattle.rules.specs.Reading.{given, trail}
 use native.Mathlib.Omega.{arith}
@@ -18,17 +17,8 @@ ci4-texel-requires c κs = search needs
 decode-ia4-requires : tie.Need-decode-ia4-requires
 decode-ia4-requires c κs = search needs
 
-cast-texel-bytes : tie.Need-cast-texel-bytes
-cast-texel-bytes c = search needs
-
-mul-texel-bytes : tie.Need-mul-texel-bytes
-mul-texel-bytes c = search needs
-
-element-copy-out-texel-bytes : tie.Need-element-copy-out-texel-bytes
-element-copy-out-texel-bytes c = search needs
-
-texel-bytes-requires : tie.Need-texel-bytes-requires
-texel-bytes-requires c κs = search needs
+ia8-texel-requires : tie.Need-ia8-texel-requires
+ia8-texel-requires c κs = search needs
 
 decode-i4-requires : tie.Need-decode-i4-requires
 decode-i4-requires c κs = search needs
@@ -48,11 +38,7 @@ returns-2 c =
 returns-3 : tie.Need-returns-3
 unfolding direct given trail
 returns-3 c =
-    let m = c .before .before in
-    let l = m .before in
-    let table = l .before .before .pre .1 .1 .1 .1 in
-    let byte = element-copy-out-texel-bytes m in
-    rw (m .match .keys3, c .texel-bytes .ensures, table, ia8-at (l .load-byte .result .byte) byte, l .load-byte .ensures)
+    rw (c .before .match .keys3, c .ia8-texel .ensures, c .before .before .load-byte .ensures)
     (record { channels = refl; reads = refl; few = omega arith; full = refl })
 
 returns-4 : tie.Need-returns-4
@@ -77,10 +63,7 @@ one-byte-texel-spec =
     load-byte-requires
     ci4-texel-requires
     decode-ia4-requires
-    cast-texel-bytes
-    mul-texel-bytes
-    element-copy-out-texel-bytes
-    texel-bytes-requires
+    ia8-texel-requires
     decode-i4-requires
     returns
     returns-2

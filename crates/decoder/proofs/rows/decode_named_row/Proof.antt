@@ -6,7 +6,7 @@ use Rattle.decoder.proofs.rows.decode_named_row.Tie as tie
 
 decode-row-requires : tie.Need-decode-row-requires
 decode-row-requires c κs =
-    let s = c .before .before .before .before .before .before in
+    let s = c .before .before .before .before .before .before .before in
     (s .pre .0, ((sym (c .before .before .if1 .taken), refl), s .pre .1))
 
 same-length : tie.Need-same-length
@@ -20,7 +20,7 @@ returns c = search needs
 
 decode-row-requires-2 : tie.Need-decode-row-requires-2
 decode-row-requires-2 c κs =
-    let s = c .before .before .before .before .before .before in
+    let s = c .before .before .before .before .before .before .before in
     let alone = c .before .before .if1 .left in
     (s .pre .0, ((sym alone, sym (rw alone at (s .pre .0 .step))), s .pre .1))
 

@@ -24,7 +24,7 @@ abbrev μ-loop : tie.MeasureT-loop
 
 -- the function's entry, its step, and where the trail of a texel ends
 abbrev start : tie.At-loop Inv-loop μ-loop → tie.Start Inv-loop μ-loop
-start c = c .before .before .before .before
+start c = c .before .before .before .before .before
 
 same-step : (c : tie.At-loop Inv-loop μ-loop) → start c .args .step ≡ start c .args .plan .step
 same-step c = start c .pre .1 .0 .1
@@ -35,7 +35,7 @@ ends c h = rw (same-step c) (omega (arith, part-ends (start c .args .plan .step)
 
 loop-holds : tie.Need-loop-holds Inv-loop μ-loop
 loop-holds c =
-    let s = c .before .before .before in
+    let s = c .before .before .before .before in
     let a = s .args in (
       omega arith,
       begins (row-given (a .plan) (a .bank .now) (a .row) 0 (s .pre .0 .knows)) _,

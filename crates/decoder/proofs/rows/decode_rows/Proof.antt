@@ -32,7 +32,7 @@ abbrev μ-loop : tie.MeasureT-loop
 
 -- the function's entry, and where a row of the picture and its trail end
 abbrev start : tie.At-loop Inv-loop μ-loop → tie.Start Inv-loop μ-loop
-start c = c .before .before .before .before .before .before .before
+start c = c .before .before .before .before .before .before .before .before
 
 ends : (c : tie.At-loop Inv-loop μ-loop) → let p = start c .args .plan in c .loop .y < p .rows
     → 4 * p .width * c .loop .y + 4 * p .width ≤ length (c .loop .out)
@@ -43,21 +43,21 @@ told-ends : (c : tie.At-loop Inv-loop μ-loop) → let p = start c .args .plan i
 told-ends c h = let p = start c .args .plan in omega (arith, part-ends (p .step * p .width) (c .loop .y) (p .rows) h)
 
 returns : tie.Need-returns Inv-loop μ-loop
-returns c = absurd (c .if1 .taken (c .before .before .before .before .pre .0 .whole))
+returns c = absurd (c .if1 .taken (c .before .before .before .before .before .pre .0 .whole))
 
 mul-bytes : tie.Need-mul-bytes Inv-loop μ-loop
-mul-bytes c = let p = c .before .before .before .before .before .pre in omega (arith, p .0 .narrow)
+mul-bytes c = let p = c .before .before .before .before .before .before .pre in omega (arith, p .0 .narrow)
 
 mul-told : tie.Need-mul-told Inv-loop μ-loop
 mul-told c =
-    let s = c .before .before .before .before .before .before in
+    let s = c .before .before .before .before .before .before .before in
     let p = s .args .plan in
     let step : p .step ≤ 8 = rw (s .pre .0 .step) (step-few (p .observe) (tileOf (p .tile)) (p .«tlut_fmt»)) in
     omega (arith, mul-le-mul step (s .pre .0 .narrow))
 
 loop-holds : tie.Need-loop-holds Inv-loop μ-loop
 loop-holds c =
-    let s = c .before .before .before .before .before .before in
+    let s = c .before .before .before .before .before .before .before in
     let a = s .args in
     let row = rowAt (a .plan .lookup) (tileOf (a .plan .tile)) (a .plan .«tlut_fmt») in (
       omega arith,

@@ -1,9 +1,9 @@
--- `decoder::table::load_palette_entry` reads the entry as the mode says. Assumes nothing.
+-- `decoder::palette::load_palette_entry` reads the entry as the mode says. Assumes nothing.
 use Rattle.rules.specs.Reading.{given}
 use borrow.Author.Tests.{eq-eqb, ne-eqb}
 use borrow.Author.Needs.{needs}
-use Rattle.decoder.proofs.table.load_palette_entry.Statement.{statement}
-use Rattle.decoder.proofs.table.load_palette_entry.Tie as tie
+use Rattle.decoder.proofs.palette.load_palette_entry.Statement.{statement}
+use Rattle.decoder.proofs.palette.load_palette_entry.Tie as tie
 
 byte-at-requires : tie.Need-byte-at-requires
 byte-at-requires c κs = search needs

@@ -1,7 +1,7 @@
--- `decoder::source_texel::ia8_texel` has the two nibbles, each repeated. Assumes nothing.
+-- `decoder::direct::ia8_texel` has the two nibbles, each repeated. Assumes nothing.
 use borrow.Author.Needs.{needs}
-use Rattle.decoder.proofs.source_texel.ia8_texel.Statement.{statement}
-use Rattle.decoder.proofs.source_texel.ia8_texel.Tie as tie
+use Rattle.decoder.proofs.direct.ia8_texel.Statement.{statement}
+use Rattle.decoder.proofs.direct.ia8_texel.Tie as tie
 
 decode-i4-requires : tie.Need-decode-i4-requires
 decode-i4-requires c κs = search needs
