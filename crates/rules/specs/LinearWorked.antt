@@ -41,8 +41,8 @@ linearTable =
     ∷ (linearly 4 1 0 0 5 1 (1 ∷ []) 1 gives 0 ∷ 0 ∷ 9 ∷ [])
     -- refused: 2, 4, 5, 6 in this order, with a count of 0 and the picture as it was; (2,3) and an unknown pair are 5
     ∷ (linearly 2 3 0 1 1 0 (1 ∷ 2 ∷ []) 4 gives 5 ∷ 0 ∷ 9 ∷ 9 ∷ 9 ∷ 9 ∷ [])
-    ∷ (linearRefusal 1 4 16 4097 4097 65536 65537 0 ∷ linearRefusal 1 3 15 4096 4096 65536 65537 0 ∷ [] gives 2 ∷ 4 ∷ [])
-    ∷ (linearRefusal 2 3 0 1 1 65535 65536 3 ∷ linearRefusal 0 3 0 1 1 65535 65536 3 ∷ [] gives 5 ∷ 6 ∷ [])
+    ∷ (linearRefusal 1 4 16 4097 4097 65536 0 0 ∷ linearRefusal 1 3 15 4096 4096 65536 0 0 ∷ [] gives 2 ∷ 4 ∷ [])
+    ∷ (linearRefusal 2 3 0 1 1 65535 0 3 ∷ linearRefusal 0 3 0 1 1 65535 0 3 ∷ [] gives 5 ∷ 6 ∷ [])
     ∷ (map (λ palette. linearRefusal 4 1 palette 0 0 0 0 0) (15 ∷ 16 ∷ []) gives 0 ∷ 2 ∷ [])
     ∷ (map (λ side. linearRefusal 4 1 0 side 0 0 0 0) (4096 ∷ 4097 ∷ []) gives 0 ∷ 2 ∷ [])
     ∷ (map (λ side. linearRefusal 4 1 0 0 side 0 0 0) (4096 ∷ 4097 ∷ []) gives 0 ∷ 2 ∷ [])

@@ -40,6 +40,7 @@ questionTable =
     ∷ (map (λ mode. asking ci8One mode 2048 0) (1 ∷ 2 ∷ 3 ∷ []) gives 6 ∷ 6 ∷ 6 ∷ [])
     ∷ (map (λ mode. asking ci8One mode 2049 2050) (0 ∷ 1 ∷ 2 ∷ 3 ∷ []) gives 0 ∷ 0 ∷ 5 ∷ 5 ∷ [])
     -- "the 128 bytes of the tile's palette for siz 0, else the upper half"
-    ∷ (asking thirdPalette 2 2560 2431 ∷ asking thirdPalette 2 2559 2432 ∷ asking thirdPalette 2 2559 2560 ∷ [] gives 0 ∷ 6 ∷ 5 ∷ [])
+    ∷ (asking thirdPalette 2 2559 2432 ∷ asking thirdPalette 2 2431 2433 ∷ [] gives 6 ∷ 6 ∷ [])
+    ∷ (endsOf (paletteOrder thirdPalette 2) gives 128 ∷ 2432 ∷ 2559 ∷ [])
     ∷ (endsOf (paletteOrder ci8One 3) gives 2048 ∷ 2048 ∷ 4095 ∷ [])
     ∷ []
