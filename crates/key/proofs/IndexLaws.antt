@@ -1,27 +1,28 @@
 -- Words of index bytes: what they read is what texels through the lookup table read, in another order.
 use mathlib.Core.Path.{_≡_, refl, ap, sym, _∙_}
-use mathlib.Core.Bool.{Bool, true, false, cond, _||_}
+use mathlib.Core.Bool.{Bool, true, false, cond}
 use mathlib.Core.List.{List, [], _∷_}
 use mathlib.Core.Logic.{_⊎_, inl, inr, ⊎-elim}
 use Prim.Native.Nat.{ℕ, _+_, _*_, _/_, _%_, _-_, _<_, _≤_}
 use native.Mathlib.Omega.{arith}
 use native.Mathlib.Decide.{ℕ-discrete}
-use lib.Dec.{eqb, leb}
+use lib.Dec.{eqb}
 use lib.ListN.{getD}
-use borrow.Author.Tests.{leb-false}
+use borrow.Author.Tests.{ne-eqb}
 use Rattle.rules.specs.Base.{odd, mem}
 use Rattle.rules.specs.Tile.{Tile}
 use Rattle.rules.specs.Reading.{Reading, trail, andThen, upTo}
 use Rattle.rules.specs.Picture.{swapOdd, address, index, entryAt, paletted, texel, column, rowStart, lookupRow, lookup}
 use Rattle.key.specs.Notes.{noted}
-use Rattle.key.specs.Words.{wordTexels, entriesOf, wordReading, indexWord, indexWords}
+use Rattle.key.specs.Words.{wordTexels, askOne, entriesOf, wordReading, indexWord, indexWords}
+use Rattle.key.specs.Words.{sparseReading, sparseWord, sparseWords}
 use Rattle.rules.proofs.Formats.{texel-tlut}
-use Rattle.rules.proofs.Ranges.{neither}
 use Rattle.rules.proofs.Tables.{mem-head, mem-tail}
 use Rattle.key.proofs.Flips.{mem-cases, mem-none}
 use Rattle.key.proofs.Lift.{found}
 use Rattle.key.proofs.Period.{covered}
-use Rattle.key.proofs.WordLaws.{noted-same, same-yes, turned, turned-lt, turned-twice, in-word, word-in, at-byte, then-cases, then-mem, rowTexel}
+use Rattle.key.proofs.WordLaws.{noted-same, same-yes, turned, turned-lt, turned-even, turned-twice, at-byte, rowTexel}
+use Rattle.key.proofs.WordLaws.{mem-one, one-mem, in-word, word-in, then-cases, then-mem}
 use Rattle.key.proofs.WordLaws.{start-bytes, start-word}
 
 -- where byte c of a row stands in the lower half
@@ -74,46 +75,79 @@ module _ (t : Tile) (lane a v : ℕ) where
 abbrev pub IndexHit : Tile → ℕ → List ℕ → ℕ → ℕ → Type 0
 IndexHit t lane b a A = (a ≡ A) ⊎ (mem a (trail (entriesOf t lane (getD b A 0)) []) ≡ true)
 
-pub record HitWord (t : Tile) (lane : ℕ) (b : List ℕ) (a first n : ℕ) : Type 0 where
-  pub word : ℕ
+-- the places of a word that are a step apart
+record HitPlace (t : Tile) (lane : ℕ) (b : List ℕ) (a step at : ℕ) : Type 0 where
   pub place : ℕ
-  pub inside : word < n
   pub small : place < 8
-  pub hits : IndexHit t lane b a (8 * ((first + word) % 256) + place)
+  pub apart : place % step ≡ 0
+  pub hits : IndexHit t lane b a (8 * at + place)
+
+-- one of n words from the first on has such a place
+record HitWord (t : Tile) (lane : ℕ) (b : List ℕ) (a step first n : ℕ) : Type 0 where
+  pub word : ℕ
+  pub inside : word < n
+  pub places : HitPlace t lane b a step ((first + word) % 256)
 
 module _ (t : Tile) (lane : ℕ) (b : List ℕ) (a : ℕ) where
-  hits-word : (at k : ℕ) → k < 8 → IndexHit t lane b a (8 * at + k) → mem a (trail (indexWord t lane b at) []) ≡ true
+  index-to : (at : ℕ) → mem a (trail (indexWord t lane b at) []) ≡ true → HitPlace t lane b a 1 at
   unfolding indexWord
-  hits-word at k h c =
-      then-mem (upTo 8 (λ k. entriesOf t lane (getD b (8 * at + k) 0))) (wordReading at) [] a
-      (⊎-elim (λ e. inr (word-in a at (omega arith)))
-      (λ m. inl (covered (λ k. entriesOf t lane (getD b (8 * at + k) 0)) [] 8 k a h m)) c)
+  index-to at h =
+      ⊎-elim
+      (λ m.
+      let k = found (λ k. entriesOf t lane (getD b (8 * at + k) 0)) [] 8 a m in
+      record { place = k .at; small = k .inside; apart = omega arith; hits = inr (k .reads) })
+      (λ m.
+      let e : a ≡ 8 * at + a % 8 = omega (arith, in-word a at m) in
+      record { place = a % 8; small = omega arith; apart = omega arith; hits = inl e })
+      (then-cases (upTo 8 (λ k. entriesOf t lane (getD b (8 * at + k) 0))) (wordReading at) [] a h)
 
-  module _ (first n : ℕ) (R : Reading)
-      (to : mem a (trail R b) ≡ true → HitWord t lane b a first n)
-      (from : HitWord t lane b a first n → mem a (trail R b) ≡ true) where
-    pub index-words : mem a (trail (indexWords t lane b first n) []) ≡ mem a (trail R b)
-    unfolding indexWords indexWord
+  to-index : (at : ℕ) → HitPlace t lane b a 1 at → mem a (trail (indexWord t lane b at) []) ≡ true
+  unfolding indexWord
+  to-index at h =
+      then-mem (upTo 8 (λ k. entriesOf t lane (getD b (8 * at + k) 0))) (wordReading at) [] a
+      (⊎-elim (λ e. inr (word-in a at (omega (arith, h .small))))
+      (λ m. inl (covered (λ k. entriesOf t lane (getD b (8 * at + k) 0)) [] 8 (h .place) a (h .small) m)) (h .hits))
+
+  sparse-to : (at : ℕ) → mem a (trail (sparseWord t lane b at) []) ≡ true → HitPlace t lane b a 2 at
+  unfolding sparseWord sparseReading
+  sparse-to at h =
+      ⊎-elim
+      (λ m.
+      let k = found (λ k. entriesOf t lane (getD b (8 * at + 2 * k) 0)) [] 4 a m in
+      record { place = 2 * k .at; small = omega (arith, k .inside); apart = omega arith; hits = inr (k .reads) })
+      (λ m.
+      let k = found (λ k. askOne (8 * at + 2 * k)) [] 4 a m in
+      record { place = 2 * k .at; small = omega (arith, k .inside); apart = omega arith; hits = inl (mem-one a _ (k .reads)) })
+      (then-cases (upTo 4 (λ k. entriesOf t lane (getD b (8 * at + 2 * k) 0))) (sparseReading at) [] a h)
+
+  to-sparse : (at : ℕ) → HitPlace t lane b a 2 at → mem a (trail (sparseWord t lane b at) []) ≡ true
+  unfolding sparseWord sparseReading
+  to-sparse at h =
+      let k : ℕ = h .place / 2 in
+      let e : h .place ≡ 2 * k = omega (arith, h .apart) in
+      let l : k < 4 = omega (arith, h .small) in
+      then-mem (upTo 4 (λ k. entriesOf t lane (getD b (8 * at + 2 * k) 0))) (sparseReading at) [] a
+      (⊎-elim (λ q. inr (covered (λ k. askOne (8 * at + 2 * k)) [] 4 k a l (one-mem a _ q)))
+      (λ m. inl (covered (λ k. entriesOf t lane (getD b (8 * at + 2 * k) 0)) [] 4 k a l m)) (rw e at (h .hits)))
+
+  -- words that have such places read what R reads where R reads those
+  module _ (step first n : ℕ) (word : ℕ → Reading)
+      (word-to : (at : ℕ) → mem a (trail (word at) []) ≡ true → HitPlace t lane b a step at)
+      (to-word : (at : ℕ) → HitPlace t lane b a step at → mem a (trail (word at) []) ≡ true) (R : Reading)
+      (to : mem a (trail R b) ≡ true → HitWord t lane b a step first n)
+      (from : HitWord t lane b a step first n → mem a (trail R b) ≡ true) where
+    index-words : mem a (trail (upTo n (λ w. word ((first + w) % 256))) []) ≡ mem a (trail R b)
     index-words = same-yes _ _ there back
       where
-        there : mem a (trail (indexWords t lane b first n) []) ≡ true → mem a (trail R b) ≡ true
+        there : mem a (trail (upTo n (λ w. word ((first + w) % 256))) []) ≡ true → mem a (trail R b) ≡ true
         there h =
-            let p = found (λ w. indexWord t lane b ((first + w) % 256)) [] n a h in
-            let at : ℕ = (first + p .at) % 256 in
-            ⊎-elim
-            (λ m.
-            let k = found (λ k. entriesOf t lane (getD b (8 * at + k) 0)) [] 8 a m in
-            from (record { word = p .at; place = k .at; inside = p .inside; small = k .inside; hits = inr (k .reads) }))
-            (λ m.
-            let e : a ≡ 8 * at + a % 8 = omega (arith, in-word a at m) in
-            from (record { word = p .at; place = a % 8; inside = p .inside; small = omega arith; hits = inl e }))
-            (then-cases (upTo 8 (λ k. entriesOf t lane (getD b (8 * at + k) 0))) (wordReading at) [] a (p .reads))
+            let p = found (λ w. word ((first + w) % 256)) [] n a h in
+            from (record { word = p .at; inside = p .inside; places = word-to ((first + p .at) % 256) (p .reads) })
 
-        back : mem a (trail R b) ≡ true → mem a (trail (indexWords t lane b first n) []) ≡ true
+        back : mem a (trail R b) ≡ true → mem a (trail (upTo n (λ w. word ((first + w) % 256))) []) ≡ true
         back h =
             let p = to h in
-            covered (λ w. indexWord t lane b ((first + w) % 256)) [] n (p .word) a (p .inside)
-            (hits-word ((first + p .word) % 256) (p .place) (p .small) (p .hits))
+            covered (λ w. word ((first + w) % 256)) [] n (p .word) a (p .inside) (to-word ((first + p .word) % 256) (p .places))
 
 -- a texel that reads the index byte at A as one in column p does; what it reads, R reads
 record Reader (t : Tile) (mode lane : ℕ) (b : List ℕ) (a : ℕ) (R : Reading) (A p : ℕ) : Type 0 where
@@ -161,29 +195,29 @@ module _ (t : Tile) (mode lane : ℕ) (b : List ℕ) (a : ℕ) (by-table : 2 ≤
 
   -- every index byte of the lower half
   lookup-words : mem a (trail (indexWords t lane b 0 256) []) ≡ mem a (trail (lookup t mode lane) b)
-  unfolding lookup lookupRow
-  lookup-words = index-words t lane b a 0 256 (lookup t mode lane) to from
+  unfolding lookup lookupRow indexWords
+  lookup-words =
+      index-words t lane b a 1 0 256 (indexWord t lane b) (index-to t lane b a) (to-index t lane b a) (lookup t mode lane) to from
     where
-      to : mem a (trail (lookup t mode lane) b) ≡ true → HitWord t lane b a 0 256
+      to : mem a (trail (lookup t mode lane) b) ≡ true → HitWord t lane b a 1 0 256
       to h =
           let r = found (λ r. upTo 4096 (λ rel. texel t mode lane (odd (r / 2)) rel (r % 2))) b 4 a h in
           let c = found (λ rel. texel t mode lane (odd (r .at / 2)) rel (r .at % 2)) b 4096 a (r .reads) in
           let A : ℕ = address 2048 (8 * t .tmem-addr) (odd (r .at / 2)) (c .at) in
           let e : A ≡ 8 * ((0 + A / 8) % 256) + A % 8 = omega arith in
+          let h = rw e at (texel-hits (odd (r .at / 2)) (c .at) (r .at % 2) (c .reads)) in
           record {
             word = A / 8;
-            place = A % 8;
             inside = omega arith;
-            small = omega arith;
-            hits = rw e at (texel-hits (odd (r .at / 2)) (c .at) (r .at % 2) (c .reads));
+            places = record { place = A % 8; small = omega arith; apart = omega arith; hits = h };
           }
 
-      from : HitWord t lane b a 0 256 → mem a (trail (lookup t mode lane) b) ≡ true
-      from h = hits-reading (lookup t mode lane) _ reader (h .hits)
+      from : HitWord t lane b a 1 0 256 → mem a (trail (lookup t mode lane) b) ≡ true
+      from h = hits-reading (lookup t mode lane) _ reader (h .places .hits)
         where
-          reader : (p : ℕ) → p < 2 → Reader t mode lane b a (lookup t mode lane) (8 * ((0 + h .word) % 256) + h .place) p
+          reader : (p : ℕ) → p < 2 → Reader t mode lane b a (lookup t mode lane) (8 * ((0 + h .word) % 256) + h .places .place) p
           reader p l =
-              let A : ℕ = 8 * ((0 + h .word) % 256) + h .place in
+              let A : ℕ = 8 * ((0 + h .word) % 256) + h .places .place in
               let rel : ℕ = (A + (2048 - 8 * t .tmem-addr % 2048)) % 2048 in
               let none : p / 2 ≡ 0 = omega arith in
               let even : odd (p / 2) ≡ false = rw none in
@@ -191,92 +225,130 @@ module _ (t : Tile) (mode lane : ℕ) (b : List ℕ) (a : ℕ) (by-table : 2 ≤
                 swap = false;
                 rel = rel;
                 x = p % 2;
-                there = omega (arith, h .small);
+                there = omega (arith, h .places .small);
                 same = λ v. index-same t (p % 2) p v (omega arith);
                 among = λ m.
                     covered (λ r. upTo 4096 (λ rel. texel t mode lane (odd (r / 2)) rel (r % 2))) b 4 p a (omega arith)
                     (covered (λ rel. texel t mode lane (odd (p / 2)) rel (p % 2)) b 4096 rel a (omega arith) (rw even m));
               }
 
-  -- the whole words of a row, by its texels to a word and the texel of a byte in column p
-  module _ (o : Bool) (s n T : ℕ) (pick : ℕ → ℕ → ℕ) (below : (x : ℕ) → x < T * n → column t mode x < 8 * n)
-      (back : (c p : ℕ) → c < 8 * n → p < 2
-      → (pick c p < T * n) × (column t mode (pick c p) ≡ c) × ((v : ℕ) → index t (pick c p) v ≡ index t p v)) where
-    index-row : mem a (trail (indexWords t lane b (t .tmem-addr + s) n) []) ≡ mem a (trail (upTo (T * n) (rowTexel t mode lane o s)) b)
-    index-row = index-words t lane b a (t .tmem-addr + s) n (upTo (T * n) (rowTexel t mode lane o s)) to from
+  -- The whole words of a row, by its texels to a word and the texel of a byte in column p. Bytes whose number the step divides stay such
+  -- in their word, and where its halves change places.
+  module _ (o : Bool) (s n step T : ℕ) (pick : ℕ → ℕ → ℕ)
+      (divided : (w r : ℕ) → r % step ≡ 0 → (turned o (r % 8) % step ≡ 0) × ((8 * w + r) % step ≡ 0))
+      (below : (x : ℕ) → x < T * n → (column t mode x < 8 * n) × (column t mode x % step ≡ 0))
+      (back : (c p : ℕ) → c < 8 * n → c % step ≡ 0 → p < 2
+      → (pick c p < T * n) × (column t mode (pick c p) ≡ c) × ((v : ℕ) → index t (pick c p) v ≡ index t p v))
+      (word : ℕ → Reading) (word-to : (at : ℕ) → mem a (trail (word at) []) ≡ true → HitPlace t lane b a step at)
+      (to-word : (at : ℕ) → HitPlace t lane b a step at → mem a (trail (word at) []) ≡ true) where
+    index-row : mem a (trail (upTo n (λ w. word ((t .tmem-addr + s + w) % 256))) [])
+        ≡ mem a (trail (upTo (T * n) (rowTexel t mode lane o s)) b)
+    index-row =
+        index-words t lane b a step (t .tmem-addr + s) n word word-to to-word (upTo (T * n) (rowTexel t mode lane o s)) to from
       where
-        to : mem a (trail (upTo (T * n) (rowTexel t mode lane o s)) b) ≡ true → HitWord t lane b a (t .tmem-addr + s) n
+        to : mem a (trail (upTo (T * n) (rowTexel t mode lane o s)) b) ≡ true → HitWord t lane b a step (t .tmem-addr + s) n
         to h =
             let x = found (rowTexel t mode lane o s) b (T * n) a h in
             let c : ℕ = column t mode (x .at) in
+            let q = below (x .at) (x .inside) in
             record {
               word = c / 8;
-              place = turned o (c % 8);
-              inside = omega (arith, below (x .at) (x .inside));
-              small = turned-lt o (c % 8) (omega arith);
-              hits = rw (byte-at o (t .tmem-addr) s c) at (texel-hits o (8 * s + c) (x .at) (x .reads));
+              inside = omega (arith, q .0);
+              places =
+                  record {
+                    place = turned o (c % 8);
+                    small = turned-lt o (c % 8) (omega arith);
+                    apart = divided 0 c (q .1) .0;
+                    hits = rw (byte-at o (t .tmem-addr) s c) at (texel-hits o (8 * s + c) (x .at) (x .reads));
+                  };
             }
 
-        from : HitWord t lane b a (t .tmem-addr + s) n → mem a (trail (upTo (T * n) (rowTexel t mode lane o s)) b) ≡ true
-        from h = hits-reading (upTo (T * n) (rowTexel t mode lane o s)) _ reader (h .hits)
+        from : HitWord t lane b a step (t .tmem-addr + s) n → mem a (trail (upTo (T * n) (rowTexel t mode lane o s)) b) ≡ true
+        from h = hits-reading (upTo (T * n) (rowTexel t mode lane o s)) _ reader (h .places .hits)
           where
-            reader : (p : ℕ) → p < 2
-                → Reader t mode lane b a (upTo (T * n) (rowTexel t mode lane o s)) (8 * ((t .tmem-addr + s + h .word) % 256) + h .place) p
+            reader : (p : ℕ) → p < 2 → Reader t mode lane b a (upTo (T * n) (rowTexel t mode lane o s))
+                (8 * ((t .tmem-addr + s + h .word) % 256) + h .places .place) p
             reader p l =
-                let r : ℕ = turned o (h .place) in
-                let small = turned-lt o (h .place) (h .small) in
+                let k : ℕ = h .places .place in
+                let r : ℕ = turned o k in
+                let small = turned-lt o k (h .places .small) in
+                let own : k % 8 ≡ k = omega (arith, h .places .small) in
+                let apart : r % step ≡ 0 = rw own at (divided 0 k (h .places .apart) .0) in
                 let c : ℕ = 8 * h .word + r in
-                let q = back c p (omega (arith, h .inside)) l in
+                let q = back c p (omega (arith, h .inside)) (divided (h .word) r apart .1) l in
                 let e = at-byte o (t .tmem-addr) s (h .word) r small in
-                let k = turned-twice o (h .place) (h .small) in
+                let twice = turned-twice o k (h .places .small) in
                 record {
                   swap = o;
                   rel = 8 * s + column t mode (pick c p);
                   x = pick c p;
-                  there = rw (q .1) (omega (arith, e, k, h .small));
+                  there = rw (q .1) (omega (arith, e, twice, h .places .small));
                   same = q .2;
                   among = covered (rowTexel t mode lane o s) b (T * n) (pick c p) a (q .0);
                 }
 
-  -- whatever the size, where an index takes a byte or half of one
-  module _ (o : Bool) (s n : ℕ) (not-yuv : eqb (t .fmt) 1 ≡ false) (short : t .siz < 2) where
+  -- whatever the size
+  module _ (o : Bool) (s n : ℕ) (not-yuv : eqb (t .fmt) 1 ≡ false) where
     column-of : (x : ℕ) → column t mode x ≡ cond (eqb (t .siz) 0) (x / 2) (cond (eqb (t .siz) 1) x (2 * x))
     column-of x = rw not-yuv
 
-    same-indices : mem a (trail (indexWords t lane b (t .tmem-addr + s) n) [])
+    -- every number is divided by one
+    any-byte : (w r : ℕ) → r % 1 ≡ 0 → (turned o (r % 8) % 1 ≡ 0) × ((8 * w + r) % 1 ≡ 0)
+    any-byte w r h = (omega arith, omega arith)
+
+    same-indices : t .siz < 2 → mem a (trail (indexWords t lane b (t .tmem-addr + s) n) [])
         ≡ mem a (trail (upTo (wordTexels (t .siz) * n) (rowTexel t mode lane o s)) b)
-    same-indices = go (ℕ-discrete (t .siz) 0)
+    unfolding indexWords
+    same-indices short = go (ℕ-discrete (t .siz) 0)
       where
         go : Dec (t .siz ≡ 0) → mem a (trail (indexWords t lane b (t .tmem-addr + s) n) [])
             ≡ mem a (trail (upTo (wordTexels (t .siz) * n) (rowTexel t mode lane o s)) b)
         go (yes z) =
             let w : wordTexels (t .siz) ≡ 16 = rw z in
             rw w
-            (index-row o s n 16 (λ c p. 2 * c + p) (λ x l. rw (column-of x, z) (omega arith))
-            (λ c p l h. (omega arith, rw (column-of (2 * c + p), z) (omega arith), λ v. index-same t (2 * c + p) p v (omega arith))))
+            (index-row o s n 1 16 (λ c p. 2 * c + p) any-byte (λ x l. (rw (column-of x, z) (omega arith), omega arith))
+            (λ c p l d h. (omega arith, rw (column-of (2 * c + p), z) (omega arith), λ v. index-same t (2 * c + p) p v (omega arith)))
+            (indexWord t lane b) (index-to t lane b a) (to-index t lane b a))
         go (no z) =
-            let d : t .siz ≡ 1 = omega arith in
-            let w : wordTexels (t .siz) ≡ 8 = rw d in
+            let e : t .siz ≡ 1 = omega arith in
+            let w : wordTexels (t .siz) ≡ 8 = rw e in
             rw w
-            (index-row o s n 8 (λ c p. c) (λ x l. rw (column-of x, d) l)
-            (λ c p l h. (l, rw (column-of c, d), λ v. rw d)))
+            (index-row o s n 1 8 (λ c p. c) any-byte (λ x l. (rw (column-of x, e) l, omega arith))
+            (λ c p l d h. (l, rw (column-of c, e), λ v. rw e)) (indexWord t lane b) (index-to t lane b a) (to-index t lane b a))
+
+    even-byte : (w r : ℕ) → r % 2 ≡ 0 → (turned o (r % 8) % 2 ≡ 0) × ((8 * w + r) % 2 ≡ 0)
+    even-byte w r h = (turned-even o (r % 8) (omega arith), omega arith)
+
+    same-sparse : 2 ≤ t .siz → mem a (trail (sparseWords t lane b (t .tmem-addr + s) n) [])
+        ≡ mem a (trail (upTo (wordTexels (t .siz) * n) (rowTexel t mode lane o s)) b)
+    unfolding sparseWords
+    same-sparse long =
+        let z : eqb (t .siz) 0 ≡ false = ne-eqb (t .siz) 0 (λ e. omega arith) in
+        let d : eqb (t .siz) 1 ≡ false = ne-eqb (t .siz) 1 (λ e. omega arith) in
+        let w : wordTexels (t .siz) ≡ 4 = rw (z, d) in
+        let twice : (x : ℕ) → column t mode x ≡ 2 * x = λ x. column-of x ∙ rw (z, d) in
+        rw w
+        (index-row o s n 2 4 (λ c p. c / 2) even-byte (λ x l. rw (twice x) (omega arith, omega arith))
+        (λ c p l e h. (omega arith, rw (twice (c / 2)) (omega arith), λ v. rw z))
+        (sparseWord t lane b) (sparse-to t lane b a) (to-sparse t lane b a))
 
 -- the words of row y are noted: so are its texels, as many as they have
-module _ (t : Tile) (mode lane y words : ℕ) (b seen u : List ℕ) (by-table : 2 ≤ mode)
-    (near : (eqb (t .fmt) 1 || leb 2 (t .siz)) ≡ false) where
-  not-yuv : eqb (t .fmt) 1 ≡ false
-  not-yuv = neither (eqb (t .fmt) 1) (leb 2 (t .siz)) near .0
+module _ (t : Tile) (mode lane y words : ℕ) (b seen u : List ℕ) (by-table : 2 ≤ mode) (not-yuv : eqb (t .fmt) 1 ≡ false) where
+  abbrev RowNoted : Type 0
+  RowNoted =
+      u ≡ noted seen (trail (upTo (wordTexels (t .siz) * words) (λ x. texel t mode lane (odd y) (rowStart t y + column t mode x) x)) b)
 
-  short : t .siz < 2
-  short = leb-false 2 (t .siz) (neither (eqb (t .fmt) 1) (leb 2 (t .siz)) near .1)
-
-  pub index-row-noted : u ≡ noted seen (trail (indexWords t lane b (t .tmem-addr + rowStart t y / 8) words) [])
-      → u ≡ noted seen (trail (upTo (wordTexels (t .siz) * words) (λ x. texel t mode lane (odd y) (rowStart t y + column t mode x) x)) b)
-  index-row-noted e =
+  pub index-row-noted : t .siz < 2 → u ≡ noted seen (trail (indexWords t lane b (t .tmem-addr + rowStart t y / 8) words) []) → RowNoted
+  index-row-noted short e =
       e
       ∙ noted-same seen _ _
-      (λ a.
-      rw (start-word t y, start-bytes t y) (same-indices t mode lane b a by-table (odd y) (y % 256 * t .line) words not-yuv short))
+      (λ a. rw (start-word t y, start-bytes t y) (same-indices t mode lane b a by-table (odd y) (y % 256 * t .line) words not-yuv short))
+
+  pub sparse-row-noted : 2 ≤ t .siz → u ≡ noted seen (trail (sparseWords t lane b (t .tmem-addr + rowStart t y / 8) words) []) → RowNoted
+  sparse-row-noted long e =
+      e
+      ∙ noted-same seen _ _
+      (λ a. rw (start-word t y, start-bytes t y) (same-sparse t mode lane b a by-table (odd y) (y % 256 * t .line) words not-yuv long))
 
 -- all words of the lower half are noted: so is a lookup
 pub lookup-noted : (t : Tile) (mode lane : ℕ) (b seen u : List ℕ) → 2 ≤ mode → u ≡ noted seen (trail (indexWords t lane b 0 256) [])

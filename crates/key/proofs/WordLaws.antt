@@ -69,6 +69,11 @@ unfolding turned
 turned-lt true r h = omega arith
 turned-lt false r h = h
 
+pub turned-even : (o : Bool) (r : ℕ) → r % 2 ≡ 0 → turned o r % 2 ≡ 0
+unfolding turned
+turned-even true r h = omega arith
+turned-even false r h = h
+
 pub turned-twice : (o : Bool) (r : ℕ) → r < 8 → turned o (turned o r) ≡ r
 unfolding turned
 turned-twice true r h = omega arith
@@ -84,11 +89,11 @@ swap-word true q r h =
     ap (λ n. bitXor n 4) e ∙ b ∙ rw (xor-zero-r q, x) (omega arith)
 
 -- an address is in a list of one, and in a word
-mem-one : (a x : ℕ) → mem a (trail (askOne x) []) ≡ true → a ≡ x
+pub mem-one : (a x : ℕ) → mem a (trail (askOne x) []) ≡ true → a ≡ x
 unfolding trail
 mem-one a x h = ⊎-elim (λ e. e) (λ q. absurd (mem-none a q)) (mem-cases a x [] h)
 
-one-mem : (a x : ℕ) → a ≡ x → mem a (trail (askOne x) []) ≡ true
+pub one-mem : (a x : ℕ) → a ≡ x → mem a (trail (askOne x) []) ≡ true
 unfolding trail mem
 one-mem a x e = rw (eq-eqb a x e)
 
@@ -272,7 +277,8 @@ module _ (t : Tile) (mode lane : ℕ) (o : Bool) (s n : ℕ) (b : List ℕ) (a :
       rw (f, w)
       (row-of-words (t .tmem-addr) o s a both n (4 * n) (rowTexel t mode lane o s) b
       (λ x l m.
-      ⊎-elim (λ e. record { byte = 2 * x; inside = omega arith; hits = e }) (λ e. record { byte = 2 * x + 1; inside = omega arith; hits = e })
+      ⊎-elim (λ e. record { byte = 2 * x; inside = omega arith; hits = e })
+      (λ e. record { byte = 2 * x + 1; inside = omega arith; hits = e })
       (pair-hits (t .tmem-addr) o s a both x (rw (reads-of x, r, twice x) at m)))
       (λ c l e.
       record {

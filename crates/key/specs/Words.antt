@@ -43,3 +43,13 @@ indexWord t lane bank at = andThen (upTo 8 (λ k. entriesOf t lane (getD bank (8
 -- so many of them from one on, which wrap at the palette
 unfoldable pub indexWords : Tile → ℕ → List ℕ → ℕ → ℕ → Reading
 indexWords t lane bank first words = upTo words (λ w. indexWord t lane bank ((first + w) % 256))
+
+-- the same where indices stand two bytes apart: every second byte of a word
+unfoldable pub sparseReading : ℕ → Reading
+sparseReading at = upTo 4 (λ k. askOne (8 * at + 2 * k))
+
+unfoldable pub sparseWord : Tile → ℕ → List ℕ → ℕ → Reading
+sparseWord t lane bank at = andThen (upTo 4 (λ k. entriesOf t lane (getD bank (8 * at + 2 * k) 0))) (sparseReading at)
+
+unfoldable pub sparseWords : Tile → ℕ → List ℕ → ℕ → ℕ → Reading
+sparseWords t lane bank first words = upTo words (λ w. sparseWord t lane bank ((first + w) % 256))

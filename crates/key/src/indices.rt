@@ -8,7 +8,7 @@ ghost use Rattle.rules.specs.Picture.{column, rowStart, texel};
 ghost use Rattle.rules.specs.Reading.{trail, upTo};
 ghost use Rattle.rules.specs.Tile.{InRange, bankSize};
 ghost use Rattle.key.specs.Notes.{noted};
-ghost use Rattle.key.specs.Words.{entriesOf, indexWord, indexWords};
+ghost use Rattle.key.specs.Words.{entriesOf, indexWord, indexWords, sparseReading, sparseWord, sparseWords};
 ghost use Rattle.rdp.specs.View.{tileOf};
 use crate::reads::entry_at;
 use crate::reads::note_two;
@@ -66,8 +66,55 @@ pub(crate) fn note_index_words(
     }
 }
 
-// Row y of a plain picture as far as its indices fill whole words; the answer is how many do. None of those that stand two bytes apart,
-// nor of format 1, whose picture is the lookup.
+// Every second byte of a word.
+fn note_sparse_bytes(notes: &mut [u8], at: usize)
+    requires { ⌜ length (now notes) ≡ bankSize ⌝ }
+    requires { ⌜ at < 256 ⌝ }
+    ensures { λ _. ⌜ now (notes .exit) ≡ noted (now (notes .entry)) (trail (sparseReading at) []) ⌝ }
+{
+    for k in 0..4 {
+        notes[8 * at + 2 * k] = 1;
+    }
+}
+
+// A word of index bytes that stand two bytes apart.
+fn note_sparse_word(bank: &[u8], notes: &mut [u8], tile: TileDescriptor, lane: u32, at: usize)
+    requires { ⌜ (length (now bank) ≡ bankSize) × (length (now notes) ≡ bankSize) ⌝ }
+    requires { ⌜ InRange (tileOf tile) ⌝ }
+    requires { ⌜ lane ≤ 3 ⌝ }
+    requires { ⌜ at < 256 ⌝ }
+    ensures { λ _. ⌜ now (notes .exit)
+        ≡ noted (now (notes .entry)) (trail (sparseWord (tileOf tile) lane (now (bank .entry)) at) []) ⌝ }
+{
+    for k in 0..4 {
+        note_entries(notes, tile, lane, bank[8 * at + 2 * k]);
+    }
+    note_sparse_bytes(notes, at);
+}
+
+// So many such words from one on.
+fn note_sparse_words(
+    bank: &[u8],
+    notes: &mut [u8],
+    tile: TileDescriptor,
+    lane: u32,
+    first: usize,
+    words: usize,
+)
+    requires { ⌜ (length (now bank) ≡ bankSize) × (length (now notes) ≡ bankSize) ⌝ }
+    requires { ⌜ InRange (tileOf tile) ⌝ }
+    requires { ⌜ lane ≤ 3 ⌝ }
+    requires { ⌜ first + words ≤ 2097152 ⌝ }
+    ensures { λ _. ⌜ now (notes .exit)
+        ≡ noted (now (notes .entry)) (trail (sparseWords (tileOf tile) lane (now (bank .entry)) first words) []) ⌝ }
+{
+    for w in 0..words {
+        note_sparse_word(bank, notes, tile, lane, (first + w) % HALF_WORDS);
+    }
+}
+
+// Row y of a plain picture as far as its indices fill whole words; the answer is how many do. None of format 1, whose picture is the
+// lookup.
 pub(crate) fn note_whole_indices(
     bank: &[u8],
     notes: &mut [u8],
@@ -83,10 +130,14 @@ pub(crate) fn note_whole_indices(
         (trail (upTo r (λ x. texel (tileOf tile) mode lane (odd y) (rowStart (tileOf tile) y + column (tileOf tile) mode x) x))
         (now (bank .entry)))) ⌝ }
 {
-    if (tile.fmt == 1) | (2 <= tile.siz) {
+    if tile.fmt == 1 {
         return 0;
     }
     let row = row_words(tile, y);
-    note_index_words(bank, notes, tile, lane, row.first, row.words);
+    if 2 <= tile.siz {
+        note_sparse_words(bank, notes, tile, lane, row.first, row.words);
+    } else {
+        note_index_words(bank, notes, tile, lane, row.first, row.words);
+    }
     row.texels
 }

@@ -77,7 +77,8 @@ pub(crate) struct RowWords {
 
 pub(crate) fn row_words(tile: TileDescriptor, y: u32) -> RowWords
     requires { ⌜ InRange (tileOf tile) ⌝ }
-    ensures { λ r. ⌜ (r .first ≡ tileOf tile .tmem-addr + rowStart (tileOf tile) y / 8) × (r .texels ≡ wordTexels (tile .siz) * r .words) ⌝ }
+    ensures { λ r. ⌜ (r .first ≡ tileOf tile .tmem-addr + rowStart (tileOf tile) y / 8)
+        × (r .texels ≡ wordTexels (tile .siz) * r .words) ⌝ }
     ensures { λ r. ⌜ (r .texels ≤ tile .width) × (r .first + r .words ≤ 2097152) ⌝ }
 {
     let texels = word_texels(tile.siz);
