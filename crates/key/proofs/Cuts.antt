@@ -7,7 +7,7 @@ use native.Mathlib.Omega.{arith}
 use native.Mathlib.Numerals.{add-one}
 use lib.ListN.{length, getD, set}
 use lib.Seq.{take-suc-set}
-use Rattle.rules.specs.Base.{one, mem, tab, distinct}
+use Rattle.rules.specs.Base.{one, mem, distinct}
 use Rattle.key.specs.Notes.{Notes, keptBy, KeySoFar}
 use Rattle.rules.proofs.Tables.{tab-more}
 

@@ -1,5 +1,5 @@
 -- Words of index bytes: what they read is what texels through the lookup table read, in another order.
-use mathlib.Core.Path.{_≡_, refl, ap, sym, _∙_}
+use mathlib.Core.Path.{_≡_, refl, ap, _∙_}
 use mathlib.Core.Bool.{Bool, true, false, cond}
 use mathlib.Core.List.{List, [], _∷_}
 use mathlib.Core.Logic.{_⊎_, inl, inr, ⊎-elim}
@@ -11,7 +11,7 @@ use lib.ListN.{getD}
 use borrow.Author.Tests.{ne-eqb}
 use Rattle.rules.specs.Base.{odd, mem}
 use Rattle.rules.specs.Tile.{Tile}
-use Rattle.rules.specs.Reading.{Reading, trail, andThen, upTo}
+use Rattle.rules.specs.Reading.{Reading, trail, upTo}
 use Rattle.rules.specs.Picture.{swapOdd, address, index, entryAt, paletted, texel, column, rowStart, lookupRow, lookup}
 use Rattle.key.specs.Notes.{noted}
 use Rattle.key.specs.Words.{wordTexels, askOne, entriesOf, wordReading, indexWord, indexWords}
