@@ -75,6 +75,7 @@ pub(crate) struct RowWords {
     pub(crate) texels: u32,
 }
 
+// Those of row y.
 pub(crate) fn row_words(tile: TileDescriptor, y: u32) -> RowWords
     requires { ⌜ InRange (tileOf tile) ⌝ }
     ensures { λ r. ⌜ (r .first ≡ tileOf tile .tmem-addr + rowStart (tileOf tile) y / 8)
