@@ -16,6 +16,7 @@ use crate::load::load_byte;
 use crate::load::load_byte_rgba32;
 use crate::texel::Texel;
 use rdp::units::ByteAddr;
+use texdec::entry::decode_ci16_entry;
 use texdec::entry::decode_ia16_entry;
 use texdec::entry::decode_rgba16_entry;
 use texdec::nibble::decode_i4;
@@ -60,7 +61,7 @@ fn two_byte_texel(
     let channels = match place {
         RGBA16 => decode_rgba16_entry(entry_of(hi.byte, lo.byte)),
         IA16 => decode_ia16_entry(entry_of(hi.byte, lo.byte)),
-        _ => [hi.byte, lo.byte, hi.byte, lo.byte],
+        _ => decode_ci16_entry(hi.byte, lo.byte),
     };
     Texel {
         channels,

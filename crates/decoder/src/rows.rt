@@ -136,7 +136,47 @@ fn decode_named_row(
     decode_row(bank, table, plan, kind, false, 0, row, out, seen);
 }
 
-// A row of its kind. The kinds of small pictures that have no loop of their own share the last.
+// A row of a kind with a table. The kinds of small pictures, which have none, share the last loop.
+fn paint_tabled_row(
+    bank: &[u8],
+    table: &[u32],
+    plan: Plan,
+    kind: u32,
+    row: Row,
+    out: &mut [u8],
+    seen: &mut [u8],
+)
+    requires { ⌜ Ready (now bank) (now table) plan kind ⌝ }
+    requires { ⌜ RowBounds row ⌝ }
+    requires { ⌜ 4 * plan .width ≤ length (now out) ⌝ }
+    requires { ⌜ plan .step * plan .width ≤ length (now seen) ⌝ }
+    ensures { λ _. ⌜ now (out .exit) ≡ over (given (oneRow plan row) (now (bank .entry))) (now (out .entry)) ⌝ }
+    ensures { λ _. ⌜ now (seen .exit)
+        ≡ over (told (plan .observe) (trail (oneRow plan row) (now (bank .entry)))) (now (seen .entry)) ⌝ }
+{
+    match kind {
+        READY_RGBA16 => decode_named_row(bank, table, plan, READY_RGBA16, row, out, seen),
+        READY_IA4 => decode_named_row(bank, table, plan, READY_IA4, row, out, seen),
+        READY_IA8 => decode_named_row(bank, table, plan, READY_IA8, row, out, seen),
+        READY_WHOLE_BYTE => decode_named_row(bank, table, plan, READY_WHOLE_BYTE, row, out, seen),
+        READY_NIBBLE => decode_named_row(bank, table, plan, READY_NIBBLE, row, out, seen),
+        READY_HIGH_NIBBLE => decode_named_row(bank, table, plan, READY_HIGH_NIBBLE, row, out, seen),
+        HALVES_WHOLE_BYTE => decode_named_row(bank, table, plan, HALVES_WHOLE_BYTE, row, out, seen),
+        _ => decode_row(
+            bank,
+            table,
+            plan,
+            kind,
+            plan.observe,
+            plan.step,
+            row,
+            out,
+            seen,
+        ),
+    }
+}
+
+// A row of its kind. These need no table, however many texels they have.
 fn paint_row(
     bank: &[u8],
     table: &[u32],
@@ -163,24 +203,7 @@ fn paint_row(
         IA16 => decode_named_row(bank, table, plan, IA16, row, out, seen),
         I4 => decode_named_row(bank, table, plan, I4, row, out, seen),
         I8 => decode_named_row(bank, table, plan, I8, row, out, seen),
-        READY_RGBA16 => decode_named_row(bank, table, plan, READY_RGBA16, row, out, seen),
-        READY_IA4 => decode_named_row(bank, table, plan, READY_IA4, row, out, seen),
-        READY_IA8 => decode_named_row(bank, table, plan, READY_IA8, row, out, seen),
-        READY_WHOLE_BYTE => decode_named_row(bank, table, plan, READY_WHOLE_BYTE, row, out, seen),
-        READY_NIBBLE => decode_named_row(bank, table, plan, READY_NIBBLE, row, out, seen),
-        READY_HIGH_NIBBLE => decode_named_row(bank, table, plan, READY_HIGH_NIBBLE, row, out, seen),
-        HALVES_WHOLE_BYTE => decode_named_row(bank, table, plan, HALVES_WHOLE_BYTE, row, out, seen),
-        _ => decode_row(
-            bank,
-            table,
-            plan,
-            kind,
-            plan.observe,
-            plan.step,
-            row,
-            out,
-            seen,
-        ),
+        _ => paint_tabled_row(bank, table, plan, kind, row, out, seen),
     }
 }
 

@@ -19,6 +19,7 @@ use crate::format::RGBA16;
 use crate::format::format_reads;
 use crate::load::byte_at;
 use crate::load::entry_of;
+use texdec::entry::decode_ci16_entry;
 use texdec::entry::decode_ia16_entry;
 use texdec::entry::decode_rgba16_entry;
 use texdec::nibble::decode_i4;
@@ -86,7 +87,7 @@ fn source_pair_texel(
     match place {
         RGBA16 => decode_rgba16_entry(entry_of(hi, lo)),
         IA16 => decode_ia16_entry(entry_of(hi, lo)),
-        _ => [hi, lo, hi, lo],
+        _ => decode_ci16_entry(hi, lo),
     }
 }
 

@@ -3,6 +3,7 @@ use mathlib.Core.Path.{_≡_}
 use Rattle.rules.proofs.Refused.{determined}
 use Rattle.texdec.proofs.entry.decode_rgba16_entry.Reads as decode-rgba16-entry
 use Rattle.texdec.proofs.entry.decode_ia16_entry.Reads as decode-ia16-entry
+use Rattle.texdec.proofs.entry.decode_ci16_entry.Reads as decode-ci16-entry
 use Rattle.texdec.proofs.format.FormatInfo.validate.Reads as validate
 use Rattle.texdec.proofs.format.FormatInfo.validate_tlut.Reads as validate-tlut
 use Rattle.texdec.proofs.ia16.ia16_halves.Reads as ia16-halves
@@ -24,6 +25,10 @@ decode-rgba16-entry-one w a r s e f p q = determined p q
 pub decode-ia16-entry-one : (w : _) (a : _) (r s : _) (e f : _) → decode-ia16-entry.Post w a r e → decode-ia16-entry.Post w a s f
     → r ≡ s
 decode-ia16-entry-one w a r s e f p q = determined p q
+
+pub decode-ci16-entry-one : (w : _) (a : _) (r s : _) (e f : _) → decode-ci16-entry.Post w a r e → decode-ci16-entry.Post w a s f
+    → r ≡ s
+decode-ci16-entry-one w a r s e f p q = determined p q
 
 pub validate-one : (w : _) (a : _) (r s : _) (e f : _) → validate.Post w a r e → validate.Post w a s f → r ≡ s
 validate-one w a r s e f p q = determined p q

@@ -4,7 +4,7 @@ ghost use Rattle.rules.specs.Texdec.{ia16Texel};
 ghost use Rattle.texdec.specs.Ready.{halvesOf};
 
 // The ready texel of each high byte beside a low byte of 0, and then of each low byte beside a high byte of 0.
-const HALVES: [u32; 512] = [
+const IA16: [u32; 512] = [
     0x00000000,
     0x00010101,
     0x00020202,
@@ -523,5 +523,5 @@ const HALVES: [u32; 512] = [
 pub fn ia16_halves() -> [u32; 512]
     ensures { λ r. ⌜ r ≡ halvesOf ia16Texel ⌝ }
 {
-    HALVES
+    IA16
 }

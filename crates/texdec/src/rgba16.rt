@@ -4,7 +4,7 @@ ghost use Rattle.rules.specs.Texdec.{rgba16Texel};
 ghost use Rattle.texdec.specs.Ready.{halvesOf};
 
 // The ready texel of each high byte beside a low byte of 0, and then of each low byte beside a high byte of 0.
-const HALVES: [u32; 512] = [
+const RGBA16: [u32; 512] = [
     0x00000000,
     0x00002100,
     0x00004200,
@@ -523,5 +523,5 @@ const HALVES: [u32; 512] = [
 pub fn rgba16_halves() -> [u32; 512]
     ensures { λ r. ⌜ r ≡ halvesOf rgba16Texel ⌝ }
 {
-    HALVES
+    RGBA16
 }

@@ -29,6 +29,9 @@ entry-of-requires-2 c κs = search needs
 decode-ia16-entry-requires : tie.Need-decode-ia16-entry-requires
 decode-ia16-entry-requires c κs = search needs
 
+decode-ci16-entry-requires : tie.Need-decode-ci16-entry-requires
+decode-ci16-entry-requires c κs = search needs
+
 returns : tie.Need-returns
 unfolding direct given trail
 returns c =
@@ -50,10 +53,15 @@ returns-2 c =
 returns-3 : tie.Need-returns-3
 unfolding direct given trail
 returns-3 c =
-    let l = c .before in
+    let m = c .before in
+    let l = m .before in
     let s = l .before .before .before in
-    rw (two-else _ (s .pre .0) (c .match .rest .0 .1) (c .match .rest .1), l .load-byte2 .ensures, l .before .load-byte .ensures)
-    (record { channels = refl; reads = refl; few = omega arith; full = refl })
+    rw (
+      two-else _ (s .pre .0) (m .match .rest .0 .1) (m .match .rest .1),
+      c .decode-ci16-entry .ensures,
+      l .load-byte2 .ensures,
+      l .before .load-byte .ensures,
+    ) (record { channels = refl; reads = refl; few = omega arith; full = refl })
 
 pub two-byte-texel-spec : {M : Type 1} → statement M
 two-byte-texel-spec =
@@ -66,6 +74,7 @@ two-byte-texel-spec =
     decode-rgba16-entry-requires
     entry-of-requires-2
     decode-ia16-entry-requires
+    decode-ci16-entry-requires
     returns
     returns-2
     returns-3)

@@ -1,6 +1,5 @@
 -- `decoder::rows::paint_row` is the row of its kind, named or not. Assumes nothing.
 use Rattle.decoder.proofs.NamedKinds.{named}
-use mathlib.Core.Path.{refl}
 use borrow.Author.Needs.{needs}
 use Rattle.decoder.proofs.rows.paint_row.Statement.{statement}
 use Rattle.decoder.proofs.rows.paint_row.Tie as tie
@@ -37,38 +36,8 @@ decode-named-row-requires-8 : tie.Need-decode-named-row-requires-8
 decode-named-row-requires-8 c κs =
     named (c .before .before .match .keys8) (c .before .before .before .before .before .before .before .pre)
 
-decode-named-row-requires-9 : tie.Need-decode-named-row-requires-9
-decode-named-row-requires-9 c κs =
-    named (c .before .before .match .keys9) (c .before .before .before .before .before .before .before .pre)
-
-decode-named-row-requires-10 : tie.Need-decode-named-row-requires-10
-decode-named-row-requires-10 c κs =
-    named (c .before .before .match .keys10) (c .before .before .before .before .before .before .before .pre)
-
-decode-named-row-requires-11 : tie.Need-decode-named-row-requires-11
-decode-named-row-requires-11 c κs =
-    named (c .before .before .match .keys11) (c .before .before .before .before .before .before .before .pre)
-
-decode-named-row-requires-12 : tie.Need-decode-named-row-requires-12
-decode-named-row-requires-12 c κs =
-    named (c .before .before .match .keys12) (c .before .before .before .before .before .before .before .pre)
-
-decode-named-row-requires-13 : tie.Need-decode-named-row-requires-13
-decode-named-row-requires-13 c κs =
-    named (c .before .before .match .keys13) (c .before .before .before .before .before .before .before .pre)
-
-decode-named-row-requires-14 : tie.Need-decode-named-row-requires-14
-decode-named-row-requires-14 c κs =
-    named (c .before .before .match .keys14) (c .before .before .before .before .before .before .before .pre)
-
-decode-named-row-requires-15 : tie.Need-decode-named-row-requires-15
-decode-named-row-requires-15 c κs =
-    named (c .before .before .match .keys15) (c .before .before .before .before .before .before .before .pre)
-
-decode-row-requires : tie.Need-decode-row-requires
-decode-row-requires c κs =
-    let s = c .before .before .before .before .before .before .before in
-    (s .pre .0, ((refl, refl), s .pre .1))
+paint-tabled-row-requires : tie.Need-paint-tabled-row-requires
+paint-tabled-row-requires c κs = c .before .before .before .before .before .before .before .pre
 
 same-length : tie.Need-same-length
 same-length c = search needs
@@ -151,69 +120,6 @@ same-length-18 c = search needs
 returns-9 : tie.Need-returns-9
 returns-9 c = search needs
 
-same-length-19 : tie.Need-same-length-19
-same-length-19 c = search needs
-
-same-length-20 : tie.Need-same-length-20
-same-length-20 c = search needs
-
-returns-10 : tie.Need-returns-10
-returns-10 c = search needs
-
-same-length-21 : tie.Need-same-length-21
-same-length-21 c = search needs
-
-same-length-22 : tie.Need-same-length-22
-same-length-22 c = search needs
-
-returns-11 : tie.Need-returns-11
-returns-11 c = search needs
-
-same-length-23 : tie.Need-same-length-23
-same-length-23 c = search needs
-
-same-length-24 : tie.Need-same-length-24
-same-length-24 c = search needs
-
-returns-12 : tie.Need-returns-12
-returns-12 c = search needs
-
-same-length-25 : tie.Need-same-length-25
-same-length-25 c = search needs
-
-same-length-26 : tie.Need-same-length-26
-same-length-26 c = search needs
-
-returns-13 : tie.Need-returns-13
-returns-13 c = search needs
-
-same-length-27 : tie.Need-same-length-27
-same-length-27 c = search needs
-
-same-length-28 : tie.Need-same-length-28
-same-length-28 c = search needs
-
-returns-14 : tie.Need-returns-14
-returns-14 c = search needs
-
-same-length-29 : tie.Need-same-length-29
-same-length-29 c = search needs
-
-same-length-30 : tie.Need-same-length-30
-same-length-30 c = search needs
-
-returns-15 : tie.Need-returns-15
-returns-15 c = search needs
-
-same-length-31 : tie.Need-same-length-31
-same-length-31 c = search needs
-
-same-length-32 : tie.Need-same-length-32
-same-length-32 c = search needs
-
-returns-16 : tie.Need-returns-16
-returns-16 c = search needs
-
 pub paint-row-spec : {M : Type 1} → statement M
 paint-row-spec =
     tie.close
@@ -226,14 +132,7 @@ paint-row-spec =
     decode-named-row-requires-6
     decode-named-row-requires-7
     decode-named-row-requires-8
-    decode-named-row-requires-9
-    decode-named-row-requires-10
-    decode-named-row-requires-11
-    decode-named-row-requires-12
-    decode-named-row-requires-13
-    decode-named-row-requires-14
-    decode-named-row-requires-15
-    decode-row-requires
+    paint-tabled-row-requires
     same-length
     same-length-2
     returns
@@ -260,25 +159,4 @@ paint-row-spec =
     returns-8
     same-length-17
     same-length-18
-    returns-9
-    same-length-19
-    same-length-20
-    returns-10
-    same-length-21
-    same-length-22
-    returns-11
-    same-length-23
-    same-length-24
-    returns-12
-    same-length-25
-    same-length-26
-    returns-13
-    same-length-27
-    same-length-28
-    returns-14
-    same-length-29
-    same-length-30
-    returns-15
-    same-length-31
-    same-length-32
-    returns-16)
+    returns-9)
