@@ -64,6 +64,15 @@ class Sheet(CommandTest):
         text = (self.room / "sheet.html").read_text(encoding="utf-8")
         self.assertIsNone(re.search(r"https?:|@import|<script|<link", text))
 
+    def test_page_that_a_newcomer_sees_first(self):
+        """docs/sheet.html is the page of the drawn capture. Two makers of PNG files may pack one picture in two ways."""
+        page = self.page(CAPTURE, "sheet.html")
+        made = (self.room / "sheet.html").read_text(encoding="utf-8")
+        stored = (expected.ROOT / "docs" / "sheet.html").read_text(encoding="utf-8")
+        packed = re.compile(re.escape(DATA) + r"[A-Za-z0-9+/=]*")
+        self.assertEqual(packed.sub("", stored), packed.sub("", made))
+        self.assertEqual(Page(stored).pictures, page.pictures)
+
     def test_totals(self):
         page = self.page(CAPTURE, "sheet.html")
         for words in ("drawn.bin", "40 records", "32 pictures", "27 keys", "5 refused"):

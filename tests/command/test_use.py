@@ -260,7 +260,11 @@ class FirstCommand(CommandTest):
         self.write("rt", b"#!/bin/sh\necho rt was called\nexit 3\n").chmod(0o755)
         settings = {"PATH": f"{self.room}:{ENVIRONMENT['PATH']}", "TULONKASA_SHARED": str(self.room / "none.so")}
         done = self.ran(str(CAPTURE), "page.html", **settings)
-        first = "samples/sheet: the library is not made yet. Proving and compiling it takes two to three minutes, this once.\n"
+        page = expected.ROOT / "docs" / "sheet.html"
+        first = (
+            f"samples/sheet: {page} is the page of samples/drawn.bin, to look at in a browser. To make it, or another, the library is "
+            "proved and compiled first, which takes four minutes, this once.\n"
+        )
         self.assertEqual((done.returncode, done.stdout, done.stderr), (3, "", first + "rt was called\n"))
         self.assertEqual(self.names(), ["rt"])
 
