@@ -263,7 +263,7 @@ class FirstCommand(CommandTest):
         page = expected.ROOT / "docs" / "sheet.html"
         first = (
             f"samples/sheet: {page} is the page of samples/drawn.bin, to look at in a browser. To make it, or another, the library is "
-            "proved and compiled first, which takes four minutes, this once.\n"
+            "proved and compiled first, which takes five minutes, this once.\n"
         )
         self.assertEqual((done.returncode, done.stdout, done.stderr), (3, "", first + "rt was called\n"))
         self.assertEqual(self.names(), ["rt"])
