@@ -133,6 +133,15 @@ class Use(CommandTest):
             self.assertIn("\nexit codes:\n  0  done\n", ran.out.decode())
             self.assertLess(max(map(len, ran.out.decode().splitlines())), 81, command)
 
+    def test_version(self):
+        header = (expected.ROOT / "include" / "tulonkasa.h").read_text(encoding="utf-8")
+        numbers = re.findall(r"^#define TK_VERSION_(?:MAJOR|MINOR|PATCH) (\d+)", header, re.M)
+        ran = self.run_command("--version")
+        self.assertEqual((ran.status, ran.out.decode(), ran.error), (0, f"tulonkasa {'.'.join(numbers)}\n", ""))
+        environment = {**ENVIRONMENT, "TULONKASA_SHARED": str(self.room / "none.so")}
+        sentence = f"{self.room}/none.so is missing. Make it with host/archive, or name it by TULONKASA_SHARED."
+        self.assertEqual(self.fails(2, sentence, "--version", env=environment).out, b"")
+
     def test_examples_of_the_helps(self):
         """Each is run where the samples are, with a partner's files: it ends with 0 or 1, and says nothing but its table."""
         (self.room / "samples").symlink_to(expected.SAMPLES)

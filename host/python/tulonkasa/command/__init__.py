@@ -16,7 +16,7 @@ import textwrap
 from collections.abc import Sequence
 from typing import Any
 
-from tulonkasa import LibraryMissing, library
+from tulonkasa import LibraryMissing, library, version
 from tulonkasa.command import check, diff, dump, find, groups, keys, reads, replay, sheet, split
 from tulonkasa.command.files import Trouble
 from tulonkasa.command.talk import BAD_USE
@@ -40,9 +40,21 @@ EXITS = """\
   2  bad use: a file is missing, torn or can't be written, or a word is wrong"""
 
 
+class Version(argparse.Action):
+    """Prints the version of the library, and ends the command."""
+
+    def __call__(self, parser: argparse.ArgumentParser, namespace: object, values: object, option: str | None = None) -> None:
+        try:
+            print(NAME, ".".join(map(str, version())))
+        except LibraryMissing as missing:
+            parser.exit(ended("--version", str(missing)))
+        parser.exit()
+
+
 def parser() -> argparse.ArgumentParser:
     """What the command takes."""
     whole = argparse.ArgumentParser(prog=NAME, **laid_out(ABOUT, EXAMPLES))
+    whole.add_argument("--version", action=Version, nargs=0, help="show the version of the library and exit")
     parts = whole.add_subparsers(metavar="COMMAND", required=True, title="commands")
     for command in COMMANDS:
         name = command.__name__.rpartition(".")[2]
