@@ -5,10 +5,9 @@ use mathlib.Core.List.{List, [], ◌∷◌, ◌++◌}
 use Prim.Native.Nat.{ℕ, zero, suc, ◌+◌, ◌-◌, ◌<◌, ◌≤◌}
 use native.Mathlib.Numerals.{add-one}
 use native.Mathlib.Omega.{arith}
-use native.Mathlib.Decide.{dec_lt}
 use Rattle.rules.specs.Base.{tab, tab_from, concat, any, marks}
 use Rattle.rules.specs.Reach.{first_reason}
-use Rattle.rules.proofs.Tables.{tab-cut, concat-append, concat-more}
+use Rattle.rules.proofs.Tables.{tab-same, tab-cut, concat-append, concat-more}
 use Rattle.rules.proofs.Maps.{marks-append}
 use Rattle.rules.proofs.Reasons.{or-first, first_reason-append}
 
@@ -20,16 +19,11 @@ pub marks-more : (m : List ℕ) (f : ℕ → List ℕ) (n : ℕ) (now next : Lis
     → now ≡ marks m (concat (tab n f)) → next ≡ marks now (f n) → next ≡ marks m (concat (tab (n + 1) f))
 marks-more m f n now next p q = rw (concat-more, marks-append, ← p, q)
 
--- what holds below n, and of k more from there on, holds below n + k
-pub so_many_more : (P : ℕ → Type 0) (n k m : ℕ) → m ≤ n + k → ((i : ℕ) → i < n → P i) → ((j : ℕ) → j < k → P (n + j))
-    → (i : ℕ) → i < m → P i
-so_many_more P n k m few b e i h = go (dec_lt i n)
-  where
-    go : Dec (i < n) → P i
-    go (yes q) = b i q
-    go (no q) =
-        let here : n + (i - n) ≡ i = omega (arith, q) in
-        rw here at (e (i - n) (omega (arith, q)))
+-- lists from the first on are all lists
+pub from_first : {A : Type 0} (n : ℕ) (f : ℕ → List A) → concat (tab (n - 0) (λ k. f (0 + k))) ≡ concat (tab n f)
+from_first n f =
+    let all : n - 0 ≡ n = omega arith in
+    rw all (ap concat (tab-same n (λ k. f (0 + k)) f (λ k h. ap f (omega arith))))
 
 -- A search F of lists: in two lists it finds what it finds in the first, and where that is nothing, what it finds in the second.
 pub record Search {A R : Type 0} (F : List A → R) (none : R) : Type 0 where
@@ -57,13 +51,10 @@ module _ {A R : Type 0} {F : List A → R} {none : R} (s : Search F none) (f : �
   cut : (n m : ℕ) → F (concat (tab n f)) ≡ none → F (concat (tab (n + m) f)) ≡ F (further n m)
   cut n m e = ap (λ l. F (concat l)) (tab-cut n m f) ∙ ap F (concat-append (tab n f) _) ∙ s.next _ _ e
 
-  -- and of all lists
-  pub all_further : (n k : ℕ) → n ≤ k → F (concat (tab n f)) ≡ none → F (concat (tab k f)) ≡ F (further n (k - n))
-  all_further n k h e =
-      let long : n + (k - n) ≡ k = omega arith in
-      ap (λ k. F (concat (tab k f))) (sym long) ∙ cut n (k - n) e
+  pub none-further : (n m : ℕ) → F (concat (tab n f)) ≡ none → F (further n m) ≡ none → F (concat (tab (n + m) f)) ≡ none
+  none-further n m e h = cut n m e ∙ h
 
-  found_further : (n m k : ℕ) → n + m ≤ k → F (concat (tab n f)) ≡ none → (r : R) → r ≡ F (further n m) → (r ≡ none → ⊥)
+  pub found_further : (n m k : ℕ) → n + m ≤ k → F (concat (tab n f)) ≡ none → (r : R) → r ≡ F (further n m) → (r ≡ none → ⊥)
       → r ≡ F (concat (tab k f))
   found_further n m k h e r here some =
       let long : k ≡ (n + m) + (k - (n + m)) = omega arith in

@@ -9,7 +9,6 @@ pub mod Spans
 pub mod Reached
 pub mod Asked
 pub mod Short
-pub mod Blank
 pub mod Pairs
 pub mod Lanes
 pub mod One

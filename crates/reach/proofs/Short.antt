@@ -2,18 +2,18 @@
 use mathlib.Core.Path.{◌≡◌, ap, sym, ◌∙◌}
 use mathlib.Core.Bool.{Bool, true, false}
 use mathlib.Core.List.{List}
-use Prim.Native.Nat.{ℕ, ◌+◌, ◌*◌, ◌%◌, ◌<◌, ◌≤◌}
+use Prim.Native.Nat.{ℕ, ◌+◌, ◌*◌, ◌/◌, ◌%◌, ◌<◌, ◌≤◌}
 use native.Mathlib.Omega.{arith}
 use native.Mathlib.Decide.{ℕ_discrete}
 use native.Mathlib.Nat.{add-mul, mul-le-mul}
-use lib.Bits.{bit_and}
+use lib.Bits.{bit_and, and_zero_r}
 use lib.ListN.{get_or}
 use borrow.Author.Tests.{eq-eqb, ne_eqb}
 use Rattle.rules.specs.Tile.{Tile, bank_words}
 use Rattle.rules.specs.Reach.{row_bytes, reach_row, first_reason}
 use Rattle.reach.specs.Words.{ors}
 use Rattle.reach.specs.declared.span.Span.{Span}
-use Rattle.reach.specs.Span.{words_of, word_count, word_in, lanes_in, eight_in, word_reached, row_span, row_lanes}
+use Rattle.reach.specs.Span.{words_of, word_count, word_in, lanes_in, eight_in, word_reached, row_span, row_lanes, BlankFours}
 use Rattle.reach.proofs.Joined.{none_all, reason_search}
 use Rattle.reach.proofs.Bytes.{ors_zero}
 use Rattle.reach.proofs.Spans.{reached_words, row_reached}
@@ -22,6 +22,15 @@ use Rattle.reach.proofs.Asked.{clear_word}
 -- so many lines are so many words at most
 pub words_on : (rows most line : ℕ) → rows ≤ most → line < bank_words → rows * line ≤ most * bank_words
 words_on rows most line h l = mul-le-mul h (omega (arith, l))
+
+-- one four more has nothing
+pub one_more : (m : List ℕ) (one : Span) (line n : ℕ) → BlankFours m one line n
+    → ors 4 (λ k. eight_in m one (4 * n * line + k * line)) ≡ 0 → BlankFours m one line (n + 1)
+one_more m one line n b e i h = go (ℕ_discrete i n)
+  where
+    go : Dec (i ≡ n) → ors 4 (λ k. eight_in m one (4 * i * line + k * line)) ≡ 0
+    go (yes q) = rw q e
+    go (no q) = b i (omega (arith, q))
 
 -- the first word of a row, from that of row 0
 stepped : (low : Bool) (a p : ℕ) → ((a + p) % bank_words + 0) % words_of low ≡ ((a + 0) % bank_words + p) % words_of low
@@ -68,3 +77,19 @@ module _ (m : List ℕ) (t : Tile) (mode : ℕ) where
             → bit_and (lanes_in (row (y + k)) 0) (eight_in m (row 0) (y * t.line + k * t.line)) ≡ 0
         go (yes o) z = rw (row_lanes (y + k) 1 (omega arith)) (rw (eq-eqb (k % 2) 1 o) at z)
         go (no o) z = rw (row_lanes (y + k) 0 (omega (arith, o))) (rw (ne_eqb (k % 2) 1 o) at z)
+
+    -- and where their words have nothing at all
+    pub four-blank : (y : ℕ) → ors 4 (λ k. eight_in m (row 0) (y * t.line + k * t.line)) ≡ 0 → (k : ℕ) → k < 4
+        → first_reason m (reach_row t mode (y + k)) ≡ 0
+    four-blank y e k h =
+        row_clear (y + k)
+        (ap (λ w. bit_and (lanes_in (row (y + k)) 0) (eight_in m (row 0) w)) (add-mul y k t.line)
+        ∙ ap (bit_and (lanes_in (row (y + k)) 0)) (ors_zero 4 (λ k. eight_in m (row 0) (y * t.line + k * t.line)) e k h)
+        ∙ and_zero_r (lanes_in (row (y + k)) 0))
+
+    -- so are all rows before as many fours
+    pub fours-blank : (n rows : ℕ) → rows ≤ 4 * n → BlankFours m (row 0) t.line n → (y : ℕ) → y < rows
+        → first_reason m (reach_row t mode y) ≡ 0
+    fours-blank n rows h b y l =
+        let at : 4 * (y / 4) + y % 4 ≡ y = omega arith in
+        ap (λ z. first_reason m (reach_row t mode z)) (sym at) ∙ four-blank (4 * (y / 4)) (b (y / 4) (omega arith)) (y % 4) (omega arith)

@@ -61,10 +61,6 @@ pub bank_bytes : (low : Bool) → 8 * words_of low ≡ bytes_of low
 bank_bytes true = refl
 bank_bytes false = refl
 
-pub whole_fits : (low : Bool) → 0 + (bytes_of low + 7) / 8 ≤ words_of low
-whole_fits true = omega arith
-whole_fits false = omega arith
-
 -- the places of the bytes before word w
 abbrev cut_at : Span → ℕ → ℕ
 cut_at s w = places_in s.sparse (min (8 * w) s.bytes)

@@ -1,12 +1,12 @@
 -- What a span reaches, and its words. It only names what the rules' lists of a row and of a lookup share.
-use Rattle.std.specs.Prelude.{◌≡◌, Bool, true, false, cond, ◌&&◌, ◌||◌, List, ℕ, ◌+◌, ◌*◌, ◌-◌, ◌/◌, ◌%◌, ◌^◌, ◌<◌, ◌≤◌, min, ltb, leb}
+use Rattle.std.specs.Prelude.{◌≡◌, Bool, true, cond, ◌&&◌, ◌||◌, List, ℕ, ◌+◌, ◌*◌, ◌-◌, ◌/◌, ◌%◌, ◌^◌, ◌<◌, ◌≤◌, min, ltb, leb}
 use Rattle.std.specs.Int.Bits.{bit_and, bit_or}
 use Rattle.rules.specs.Base.{odd, tab, concat}
 use Rattle.rules.specs.Tile.{Tile, bank_size, palette_base, bank_words}
 use Rattle.rules.specs.Texdec.{tlut}
 use Rattle.rules.specs.Sampling.{is_rgba32}
 use Rattle.rules.specs.Picture.{address, swap_odd}
-use Rattle.rules.specs.Reach.{row_bytes, reach_row, first_reason}
+use Rattle.rules.specs.Reach.{row_bytes}
 use Rattle.reach.specs.Words.{ors, eight_bytes, low_words, twin}
 use Rattle.reach.specs.declared.span.Span.{Span}
 
@@ -97,33 +97,6 @@ row_span t mode y =
 abbrev pub row_lanes : List ℕ → Span → Span → ℕ → ℕ → ℕ → ℕ
 row_lanes m one other line from k = bit_and (cond (odd k) (lanes_in other 0) (lanes_in one 0)) (eight_in m one (from + k * line))
 
--- the n words from one on have nothing
-abbrev pub Blank : List ℕ → ℕ → ℕ → Type 0
-Blank m first n = (i : ℕ) → i < n → eight_bytes m (8 * (first + i)) ≡ 0
-
--- no word of a span wraps
-abbrev pub Fits : Span → Type 0
-Fits s = s.first.0 + word_count s ≤ words_of s.low
-
--- the words of a span before word n have no reason
-abbrev pub NoneBelow : List ℕ → Span → ℕ → Type 0
-NoneBelow m s n = (w : ℕ) → w < n → first_reason m (word_reached s w) ≡ 0
-
--- the n words from the tile's first on are in their places: none wraps, and none stands for another
-abbrev pub InPlace : Tile → ℕ → ℕ → Type 0
-InPlace t mode n = (both_halves t mode ≡ false) × (t.tmem_addr + n ≤ words_of (low_half t mode))
-
--- the words of a row, the last one whole or not
-abbrev pub row_words : Tile → ℕ
-row_words t = (row_bytes t + 7) / 8
-
--- row y lies in those n words
-abbrev pub LiesIn : Tile → ℕ → ℕ → Type 0
-LiesIn t n y = y * t.line + row_words t ≤ n
-
--- the rows before row n have no reason; and those that lie in the first n words
-abbrev pub NoneBefore : List ℕ → Tile → ℕ → ℕ → Type 0
-NoneBefore m t mode n = (y : ℕ) → y < n → first_reason m (reach_row t mode y) ≡ 0
-
-abbrev pub NoneIn : List ℕ → Tile → ℕ → ℕ → Type 0
-NoneIn m t mode n = (y : ℕ) → LiesIn t n y → first_reason m (reach_row t mode y) ≡ 0
+-- the fours of rows below n have nothing in their words, which are so many words on from row 0's
+abbrev pub BlankFours : List ℕ → Span → ℕ → ℕ → Type 0
+BlankFours m one line n = (i : ℕ) → i < n → ors 4 (λ k. eight_in m one (4 * i * line + k * line)) ≡ 0

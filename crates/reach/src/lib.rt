@@ -9,6 +9,5 @@ mod reason;
 mod refused;
 pub mod rejection;
 mod rows;
-mod run;
 mod span;
 mod word;

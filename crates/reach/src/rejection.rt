@@ -1,7 +1,7 @@
 // The first reason among the bytes that a tile asks for: a search of its reach in order and then of its palette.
-ghost use Rattle.std.specs.Prelude.{◌≡◌, ℕ, ◌≤◌, length};
+ghost use Rattle.std.specs.Prelude.{◌≡◌, length};
 ghost use Rattle.rules.specs.Calls.{rejection_call};
-ghost use Rattle.rules.specs.Reach.{reach, reach_whole, palette_order, first_reason, rejection};
+ghost use Rattle.rules.specs.Reach.{reach, palette_order, first_reason, rejection};
 ghost use Rattle.rdp.specs.View.{tile_of, reason_answered};
 ghost use Rattle.rules.specs.Tile.{reasons_size, InRange};
 
@@ -12,14 +12,6 @@ use rdp::tile::TileDescriptor;
 use tile_sampling::sampling::TileSampling;
 use tmem::bank::Bank;
 
-// That of all that a lookup reaches.
-fn lookup_reason(reasons: &[u8], tile: TileDescriptor, tlut: u32) -> u8
-    requires { length reasons.now ≡ reasons_size }
-    ensures { result ≡ first_reason reasons.now (reach_whole (tile_of tile) tlut) }
-{
-    rows::run_reason(reasons, Span::whole(tile, tlut))
-}
-
 // That of the reach.
 fn reach_reason(reasons: &[u8], tile: TileDescriptor, tlut: u32) -> u8
     requires reasons_len { length reasons.now ≡ reasons_size }
@@ -28,18 +20,21 @@ fn reach_reason(reasons: &[u8], tile: TileDescriptor, tlut: u32) -> u8
 {
     let sampling = TileSampling::from_tile(tile, tlut);
     if sampling.lookup {
-        return lookup_reason(reasons, tile, tlut);
+        return rows::span_reason(reasons, Span::whole(tile, tlut));
     }
     rows::rows_reason(reasons, tile, tlut)
 }
 
 // That of the palette, which modes 2 and 3 alone have.
-fn palette_reason(reasons: &[u8], tile: TileDescriptor) -> u8
+fn palette_reason(reasons: &[u8], tile: TileDescriptor, tlut: u32) -> u8
     requires reasons_len { length reasons.now ≡ reasons_size }
     requires in_range { InRange (tile_of tile) }
-    ensures { (mode : ℕ) → 2 ≤ mode → result ≡ first_reason reasons.now (palette_order (tile_of tile) mode) }
+    ensures { result ≡ first_reason reasons.now (palette_order (tile_of tile) tlut) }
 {
-    rows::run_reason(reasons, Span::palette(tile))
+    if 2 <= tlut {
+        return rows::span_reason(reasons, Span::palette(tile));
+    }
+    0
 }
 
 // That of the reach, or where it has none, of the palette.
@@ -52,10 +47,7 @@ fn first_reason(reasons: &[u8], tile: TileDescriptor, tlut: u32) -> u8
     if reason != 0 {
         return reason;
     }
-    if tlut < 2 {
-        return 0;
-    }
-    palette_reason(reasons, tile)
+    palette_reason(reasons, tile, tlut)
 }
 
 // The first reason among the bytes that the tile asks for, 0 for none, or the refusal.

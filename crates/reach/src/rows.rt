@@ -1,48 +1,30 @@
-// The first reason of a span, and of the rows of a tile. Words that have nothing are passed first; then rows of one word at most are
-// asked four at a time.
-ghost use Rattle.std.specs.Prelude.{true, cond, ◌≡◌, ℕ, ◌+◌, ◌-◌, ◌*◌, ◌%◌, ◌<◌, ◌≤◌, length};
+// The first reason of a span, and of the rows of a tile. Rows of one word at most are asked four at a time.
+ghost use Rattle.std.specs.Prelude.{cond, ◌≡◌, ◌+◌, ◌-◌, ◌*◌, ◌%◌, ◌<◌, ◌≤◌, min, length};
 ghost use Rattle.rules.specs.Base.{tab, concat};
-ghost use Rattle.rules.specs.Reach.{row_bytes, reach_row, reach_rows, reach_plain, first_reason};
+ghost use Rattle.rules.specs.Reach.{row_bytes, reach_row, reach_plain, first_reason};
 ghost use Rattle.rdp.specs.View.{tile_of};
 ghost use Rattle.rules.specs.Tile.{bank_size, bank_words, reasons_size, InRange};
 ghost use Rattle.reach.specs.Words.{ors};
-ghost use Rattle.reach.specs.Span.{Bounds, Fits, word_count, reached, row_lanes, NoneBelow, NoneBefore, NoneIn};
+ghost use Rattle.reach.specs.Span.{Bounds, reached, eight_in, row_lanes, BlankFours};
 
 use crate::span::Span;
-use crate::{extent, reason, run, span};
+use crate::{extent, reason};
 use rdp::tile::TileDescriptor;
 
-// The first reason of a span, 0 for none, where the words before one have none.
-fn span_reason(reasons: &[u8], span: Span, from: usize) -> u8
+// The first reason of a span, 0 for none.
+pub(crate) fn span_reason(reasons: &[u8], span: Span) -> u8
     requires reasons_len { length reasons.now ≡ reasons_size }
-    requires bounds { Bounds span × (from ≤ word_count span) × NoneBelow reasons.now span from }
+    requires bounds { Bounds span }
     ensures { result ≡ first_reason reasons.now (reached span) }
 {
     let words = span.words();
-    for w in from..words {
+    for w in 0..words {
         let reason = reason::word_reason(reasons, span, w);
         if reason != 0 {
             return reason;
         }
     }
     0
-}
-
-// That of a span that does not wrap. Most words have nothing, which is asked first. The first that has something mostly has the reason.
-pub(crate) fn run_reason(reasons: &[u8], span: Span) -> u8
-    requires reasons_len { length reasons.now ≡ reasons_size }
-    requires bounds { Bounds span × Fits span }
-    ensures { result ≡ first_reason reasons.now (reached span) }
-{
-    let blank = run::span_blank(reasons, span);
-    if blank == span.words() {
-        return 0;
-    }
-    let reason = reason::word_reason(reasons, span, blank);
-    if reason != 0 {
-        return reason;
-    }
-    span_reason(reasons, span, blank + 1)
 }
 
 // That of some rows, which have `bytes` bytes each: from one up to another.
@@ -59,7 +41,7 @@ fn some_rows(
     ensures { result ≡ first_reason reasons.now (concat (tab (to - from) (λ k. reach_row (tile_of tile) tlut (from + k)))) }
 {
     for y in from..to {
-        let reason = span_reason(reasons, Span::of_row(tile, tlut, y, bytes), 0);
+        let reason = span_reason(reasons, Span::of_row(tile, tlut, y, bytes));
         if reason != 0 {
             return reason;
         }
@@ -92,127 +74,95 @@ fn four_words(reasons: &[u8], one: Span, other: Span, line: usize, from: usize) 
     all
 }
 
-// Four rows of one word each have no reason, from an even row on: most have none, which is asked of all four at once.
-fn are_clear(reasons: &[u8], tile: TileDescriptor, tlut: u32, bytes: usize, y: usize) -> bool
-    requires reasons_len { length reasons.now ≡ reasons_size }
-    requires in_range { InRange (tile_of tile) }
-    requires bytes_value { (bytes ≡ row_bytes (tile_of tile)) × (bytes ≤ 8) × (y % 2 ≡ 0) × (y + 4 ≤ bank_size) }
-    ensures { result ≡ true → (k : ℕ) → k < 4 → first_reason reasons.now (reach_row (tile_of tile) tlut (y + k)) ≡ 0 }
-{
-    let line = tile.line.0 as usize;
-    let one = Span::of_row(tile, tlut, 0, bytes);
-    let other = Span::of_row(tile, tlut, 1, bytes);
-    four_words(reasons, one, other, line, y * line) == 0
-}
-
-// How many rows are seen to have no reason, where those before one have none: of one word each all, or as many as there are before four
-// that are not clear; longer ones are not asked here.
-fn clear_rows(
+// That of four rows of one word each, from row y on, or of those there are: most have none, which is asked of all four at once.
+fn four_rows(
     reasons: &[u8],
     tile: TileDescriptor,
     tlut: u32,
     bytes: usize,
-    from: usize,
+    y: usize,
     rows: usize,
-) -> usize
+) -> u8
     requires reasons_len { length reasons.now ≡ reasons_size }
     requires in_range { InRange (tile_of tile) }
-    requires bytes_value { (bytes ≡ row_bytes (tile_of tile)) × (from ≤ rows) × (rows ≤ bank_size) }
-    requires none_before { NoneBefore reasons.now (tile_of tile) tlut from }
-    ensures { (result ≤ rows) × NoneBefore reasons.now (tile_of tile) tlut result }
+    requires bytes_value { (bytes ≡ row_bytes (tile_of tile)) × (bytes ≤ 8) }
+    requires y_value { (y % 2 ≡ 0) × (y + 4 ≤ bank_size) × (y ≤ rows) × (rows ≤ bank_size) }
+    ensures { result
+        ≡ first_reason reasons.now (concat (tab (min (y + 4) rows - y) (λ k. reach_row (tile_of tile) tlut (y + k)))) }
 {
-    if 8 < bytes {
-        return from;
-    }
-    let fours = (rows + 3) / 4;
-    for i in from / 4..fours {
-        if !are_clear(reasons, tile, tlut, bytes, 4 * i) {
-            return 4 * i;
-        }
-    }
-    rows
-}
-
-// That of all rows, up to their period, where those before one have none.
-fn rows_from(reasons: &[u8], tile: TileDescriptor, tlut: u32, from: usize) -> u8
-    requires reasons_len { length reasons.now ≡ reasons_size }
-    requires in_range { InRange (tile_of tile) }
-    requires from_bound { (from ≤ reach_rows (tile_of tile)) × NoneBefore reasons.now (tile_of tile) tlut from }
-    ensures { result ≡ first_reason reasons.now (reach_plain (tile_of tile) tlut) }
-{
-    let bytes = extent::row_bytes(tile);
-    let rows = extent::reach_rows(tile);
-    let first = clear_rows(reasons, tile, tlut, bytes, from, rows);
-    some_rows(reasons, tile, tlut, bytes, first, rows)
-}
-
-// The same, where the first words of the run have nothing. The tile's numbers are stored for a call here, and not before those words
-// are asked.
-fn rows_after(reasons: &[u8], tile: TileDescriptor, tlut: u32, words: usize) -> u8
-    requires reasons_len { length reasons.now ≡ reasons_size }
-    requires in_range { InRange (tile_of tile) }
-    requires words_le_bank_words { (words ≤ bank_words) × NoneIn reasons.now (tile_of tile) tlut words }
-    ensures { result ≡ first_reason reasons.now (reach_plain (tile_of tile) tlut) }
-{
-    rows_from(reasons, tile, tlut, run::rows_within(tile, words))
-}
-
-// The reason at the first address, 0 for none. Where there is one, it is that of all rows: a rejected load that stored the whole tile
-// left it there.
-fn at_once(reasons: &[u8], tile: TileDescriptor, tlut: u32) -> u8
-    requires reasons_len { length reasons.now ≡ reasons_size }
-    requires in_range { InRange (tile_of tile) }
-    ensures { (result ≡ 0 → ⊥) → result ≡ first_reason reasons.now (reach_plain (tile_of tile) tlut) }
-{
-    let bytes = extent::row_bytes(tile);
-    reason::place_reason(reasons, Span::of_row(tile, tlut, 0, bytes), 0, 0)
-}
-
-// That of all rows where addresses wrap at the palette.
-fn low_rows(reasons: &[u8], tile: TileDescriptor, tlut: u32) -> u8
-    requires reasons_len { length reasons.now ≡ reasons_size }
-    requires in_range { InRange (tile_of tile) }
-    ensures { result ≡ first_reason reasons.now (reach_plain (tile_of tile) tlut) }
-{
-    let reason = at_once(reasons, tile, tlut);
-    if reason != 0 {
-        return reason;
-    }
-    let words = run::run_words(tile, tlut);
-    let blank = run::blank_words(reasons, tile.tmem_addr.0 as usize, words);
-    rows_from(reasons, tile, tlut, run::rows_within(tile, blank))
-}
-
-// That of all rows where they wrap at the bank's end, as those of most tiles do. Most have nothing, which their words say as one run. It
-// differs from the function above in that it ends there, and in what is known of the tile where it is called: its code is shorter.
-fn plain_rows(reasons: &[u8], tile: TileDescriptor, tlut: u32) -> u8
-    requires reasons_len { length reasons.now ≡ reasons_size }
-    requires in_range { InRange (tile_of tile) }
-    ensures { result ≡ first_reason reasons.now (reach_plain (tile_of tile) tlut) }
-{
-    let reason = at_once(reasons, tile, tlut);
-    if reason != 0 {
-        return reason;
-    }
-    let words = run::run_words(tile, tlut);
-    if words == 0 {
-        return rows_after(reasons, tile, tlut, 0);
-    }
-    let blank = run::blank_words(reasons, tile.tmem_addr.0 as usize, words);
-    if blank == words {
+    let line = tile.line.0 as usize;
+    let one = Span::of_row(tile, tlut, 0, bytes);
+    let other = Span::of_row(tile, tlut, 1, bytes);
+    if four_words(reasons, one, other, line, y * line) == 0 {
         return 0;
     }
-    rows_after(reasons, tile, tlut, blank)
+    some_rows(reasons, tile, tlut, bytes, y, extent::lesser(y + 4, rows))
 }
 
-// That of all rows.
+// The words of four rows in one number, each whole: the bytes that its row reaches, and those beside them.
+fn four_whole(reasons: &[u8], one: Span, line: usize, from: usize) -> u64
+    requires reasons_len { length reasons.now ≡ reasons_size }
+    requires bounds { Bounds one × (line < bank_words) }
+    requires bank_words_bound { from + 4 * bank_words ≤ bank_size * bank_words }
+    ensures { result ≡ ors 4 (λ k. eight_in reasons.now one (from + k * line)) }
+{
+    let mut all = 0u64;
+    for k in 0..4 {
+        all = all | reason::eight_of(reasons, one, from + k * line);
+    }
+    all
+}
+
+// How many fours of rows have nothing in their words, from row 0 on.
+fn blank_fours(reasons: &[u8], one: Span, line: usize, fours: usize) -> usize
+    requires reasons_len { length reasons.now ≡ reasons_size }
+    requires bounds { Bounds one × (line < bank_words) × (4 * fours ≤ bank_size) }
+    ensures { (result ≤ fours) × BlankFours reasons.now one line result }
+{
+    for i in 0..fours {
+        if four_whole(reasons, one, line, 4 * i * line) != 0 {
+            return i;
+        }
+    }
+    fours
+}
+
+// That of rows of one word each. Most words have nothing, which is asked first: only after that the bytes that the rows reach are told
+// from those beside them.
+fn short_rows(reasons: &[u8], tile: TileDescriptor, tlut: u32, bytes: usize, rows: usize) -> u8
+    requires reasons_len { length reasons.now ≡ reasons_size }
+    requires in_range { InRange (tile_of tile) }
+    requires bytes_value { (bytes ≡ row_bytes (tile_of tile)) × (bytes ≤ 8) × (rows ≤ bank_size) }
+    ensures { result ≡ first_reason reasons.now (concat (tab rows (reach_row (tile_of tile) tlut))) }
+{
+    let fours = (rows + 3) / 4;
+    let line = tile.line.0 as usize;
+    let one = Span::of_row(tile, tlut, 0, bytes);
+    let blank = blank_fours(reasons, one, line, fours);
+    for i in blank..fours {
+        let reason = four_rows(reasons, tile, tlut, bytes, 4 * i, rows);
+        if reason != 0 {
+            return reason;
+        }
+    }
+    0
+}
+
+// That of all rows, up to their period. The first address is asked before all others: where a rejected load stored the whole tile, its
+// reason is there.
 pub(crate) fn rows_reason(reasons: &[u8], tile: TileDescriptor, tlut: u32) -> u8
     requires reasons_len { length reasons.now ≡ reasons_size }
     requires in_range { InRange (tile_of tile) }
     ensures { result ≡ first_reason reasons.now (reach_plain (tile_of tile) tlut) }
 {
-    if span::is_low(tile, tlut) {
-        return low_rows(reasons, tile, tlut);
+    let bytes = extent::row_bytes(tile);
+    let at_once = reason::place_reason(reasons, Span::of_row(tile, tlut, 0, bytes), 0, 0);
+    if at_once != 0 {
+        return at_once;
     }
-    plain_rows(reasons, tile, tlut)
+    let rows = extent::reach_rows(tile);
+    if bytes <= 8 {
+        return short_rows(reasons, tile, tlut, bytes, rows);
+    }
+    some_rows(reasons, tile, tlut, bytes, 0, rows)
 }

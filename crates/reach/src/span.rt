@@ -7,8 +7,8 @@ ghost use Rattle.rules.specs.Sampling.{is_rgba32};
 ghost use Rattle.rules.specs.Tile.{bank_size, bank_words, palette_base, InRange};
 ghost use Rattle.rdp.specs.View.{tile_of};
 ghost use Rattle.reach.specs.Words.{low_words};
-ghost use Rattle.reach.specs.Span.{Bounds, Fits, words_of, reached, word_count, word_in, places_of, byte_of};
-ghost use Rattle.reach.specs.Span.{low_half, both_halves, row_span, bits_in, in_halves, lanes_in};
+ghost use Rattle.reach.specs.Span.{Bounds, words_of, reached, word_count, word_in, places_of, byte_of};
+ghost use Rattle.reach.specs.Span.{row_span, bits_in, in_halves, lanes_in};
 
 use crate::extent;
 use rdp::tile::TileDescriptor;
@@ -45,22 +45,8 @@ fn is_rgba32(tile: TileDescriptor) -> bool
     (tile.fmt == 0) & (tile.siz == 3)
 }
 
-// Each address of a tile stands for one in the upper half as well: those of (0,3), in modes 0 and 1.
-pub(crate) fn is_both(tile: TileDescriptor, tlut: u32) -> bool
-    ensures { result ≡ both_halves (tile_of tile) tlut }
-{
-    (tlut < 2) & is_rgba32(tile)
-}
-
-// The addresses of a tile wrap at the palette: in modes 2 and 3, and those of (0,3).
-pub(crate) fn is_low(tile: TileDescriptor, tlut: u32) -> bool
-    ensures { result ≡ low_half (tile_of tile) tlut }
-{
-    (2 <= tlut) | is_rgba32(tile)
-}
-
 // The words of the bank, or of its lower half.
-pub(crate) fn bank_words(low: bool) -> usize
+fn bank_words(low: bool) -> usize
     ensures value { result ≡ words_of low }
     ensures result_nonzero { (0 < result) × (result ≤ bank_words) }
 {
@@ -116,29 +102,31 @@ impl Span {
         ensures value { result ≡ row_span (tile_of tile) tlut y }
     {
         let first = tile.tmem_addr.row(tile.line, y as u32);
+        let rgba32 = is_rgba32(tile);
         Span {
             first,
             bytes,
             odd: y % 2 == 1,
             sparse: (2 <= tlut) & (2 <= tile.siz),
-            low: is_low(tile, tlut),
-            twice: is_both(tile, tlut),
+            low: (2 <= tlut) | rgba32,
+            twice: (tlut < 2) & rgba32,
         }
     }
 
     // All that a lookup reaches: every address below the modulus.
     pub(crate) fn whole(tile: TileDescriptor, tlut: u32) -> Span
         ensures result_value { reached result ≡ reach_whole (tile_of tile) tlut }
-        ensures bounds { Bounds result × Fits result }
+        ensures bounds { Bounds result }
     {
-        let low = is_low(tile, tlut);
+        let rgba32 = is_rgba32(tile);
+        let low = (2 <= tlut) | rgba32;
         Span {
             first: WordAddr(0),
             bytes: 8 * bank_words(low),
             odd: false,
             sparse: false,
             low,
-            twice: is_both(tile, tlut),
+            twice: (tlut < 2) & rgba32,
         }
     }
 
@@ -146,7 +134,7 @@ impl Span {
     fn upper(word: u32, bytes: usize) -> Span
         requires { 8 * word + bytes ≤ palette_base }
         ensures result_value { reached result ≡ tab bytes (λ i. palette_base + 8 * word + i) }
-        ensures bounds { Bounds result × Fits result }
+        ensures bounds { Bounds result }
     {
         Span {
             first: WordAddr(UPPER + word),
@@ -162,7 +150,7 @@ impl Span {
     pub(crate) fn palette(tile: TileDescriptor) -> Span
         requires { InRange (tile_of tile) }
         ensures by_index { (mode : ℕ) → 2 ≤ mode → reached result ≡ palette_order (tile_of tile) mode }
-        ensures bounds { Bounds result × Fits result }
+        ensures bounds { Bounds result }
     {
         if tile.siz == 0 {
             return Span::upper(16 * tile.palette, 128);

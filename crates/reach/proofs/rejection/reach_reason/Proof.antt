@@ -9,14 +9,19 @@ use Rattle.reach.proofs.rejection.reach_reason.Tie as tie
 from-tile-requires : tie.Need-from-tile-requires
 from-tile-requires c κs = search rules
 
-lookup-reason-requires : tie.Need-lookup-reason-requires
-lookup-reason-requires c κs = search rules
+whole-requires : tie.Need-whole-requires
+whole-requires c κs = search rules
+
+span-reason-requires : tie.Need-span-reason-requires
+span-reason-requires c κs = search rules
 
 returns : tie.Need-returns
 returns c =
-    let d = c.before.before in
+    let t = c.before.before in
+    let d = t.before in
     let a = d.before.before.args in
-    rw (reach_whole (tile_of a.tile) a.tlut (sym d.from_tile.ensures.0 ∙ c.before.if1.true)) c.lookup-reason.ensures
+    rw (reach_whole (tile_of a.tile) a.tlut (sym d.from_tile.ensures.0 ∙ t.if1.true), ← c.before.whole.ensures.0)
+    c.span-reason.ensures
 
 rows-reason-requires : tie.Need-rows-reason-requires
 rows-reason-requires c κs = search rules
@@ -29,4 +34,5 @@ returns-2 c =
 
 pub reach-reason-spec : {M : Type 1} → statement M
 reach-reason-spec =
-    tie.close (tie.spec from-tile-requires lookup-reason-requires returns rows-reason-requires returns-2)
+    tie.close
+    (tie.spec from-tile-requires whole-requires span-reason-requires returns rows-reason-requires returns-2)

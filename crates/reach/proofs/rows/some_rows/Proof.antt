@@ -27,8 +27,7 @@ of-row-requires : tie.Need-of-row-requires invariant-loop decreases-loop
 of-row-requires c κs = let p = c.before.before.before.requires in (omega arith, p.1.0)
 
 span-reason-requires : tie.Need-span-reason-requires invariant-loop decreases-loop
-span-reason-requires c κs =
-    (c.before.before.before.before.requires.0, (c.of_row.ensures.1.0, omega arith, λ w h. absurd (omega (arith, h))))
+span-reason-requires c κs = (c.before.before.before.before.requires.0, c.of_row.ensures.1.0)
 
 -- what is found, of the rule's row
 found_in : (c : tie.After-span-reason invariant-loop decreases-loop) → let l = c.before.before.before in

@@ -7,29 +7,27 @@ use borrow.Author.Rules.{rules}
 use Rattle.rules.specs.Base.{tab, concat}
 use Rattle.rules.specs.Reach.{first_reason}
 use Rattle.reach.specs.Span.{word_reached}
-use Rattle.reach.proofs.Joined.{none_all, none_more, first_found, reason_search}
+use Rattle.reach.proofs.Joined.{none_yet, none_more, first_found, reason_search}
 use Rattle.reach.proofs.Spans.{reached_words}
 use Rattle.reach.proofs.rows.span_reason.Statement.{statement}
 use Rattle.reach.proofs.rows.span_reason.Tie as tie
 
 abbrev invariant-loop : tie.invariant-loop
-invariant-loop reasons span from words w₀ w = (w ≤ words) × (first_reason reasons (concat (tab w (word_reached span))) ≡ 0)
+invariant-loop reasons span words w₀ w = (w ≤ words) × (first_reason reasons (concat (tab w (word_reached span))) ≡ 0)
 
 abbrev decreases-loop : tie.decreases-loop
-decreases-loop reasons span from words w₀ w = words - w
+decreases-loop reasons span words w₀ w = words - w
 
 words-requires : tie.Need-words-requires invariant-loop decreases-loop
 words-requires c κs = search rules
 
 loop-holds : tie.Need-loop-init invariant-loop decreases-loop
-loop-holds c =
-    let p = c.before.before.requires.1 in
-    (omega (arith, c.words.ensures, p.1), none_all (reason_search _) _ _ p.2)
+loop-holds c = (omega arith, none_yet (reason_search _) _)
 
 word-reason-requires : tie.Need-word-reason-requires invariant-loop decreases-loop
 word-reason-requires c κs =
     let p = c.before.before.before.before.requires in
-    (p.0, (p.1.0, omega arith))
+    (p.0, (p.1, omega arith))
 
 returns : tie.Need-returns invariant-loop decreases-loop
 returns c =
