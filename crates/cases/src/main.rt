@@ -2,6 +2,8 @@
 // reason and the lane check at their boundaries; pictures and lookups at theirs, and every pair in every mode on every lane. Standard
 // input has a case a line (line.rt), after a line of the columns' names for each kind. A line of output each: the case's name and what
 // came out.
+#![tactic(auto)]
+
 mod buffers;
 mod line;
 mod loads;

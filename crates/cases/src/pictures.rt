@@ -23,7 +23,7 @@ const PICTURE_ROOM: usize = 65536;
 const TRAIL_ROOM: usize = 120;
 
 // An answer, and the weight of what the lanes so far left.
-#[derive(Drop)]
+#[derive(Clone, Copy)]
 struct Told {
     answer: Answer,
     weight: u64,

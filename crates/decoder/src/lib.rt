@@ -1,5 +1,7 @@
 // The pictures of tmem.rs: the plain one and the lookup of a tile, alone or with the trail of their reads, each through a decoder
 // that refers to the lent bank. Below them: a texel, a row of texels, a whole picture or its refusal.
+#![tactic(auto)]
+
 mod bank_decoder;
 mod decode;
 mod direct;

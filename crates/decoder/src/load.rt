@@ -10,7 +10,7 @@ use rdp::units::{ByteAddr, swap_odd_line};
 use tmem::bank::Bank;
 
 // A byte and its address, wrapped: a place of the bank.
-#[derive(Drop)]
+#[derive(Clone, Copy)]
 pub(crate) struct Load {
     pub(crate) at: usize,
     pub(crate) byte: u8,

@@ -7,7 +7,7 @@ ghost use Rattle.decoder.specs.Rows.{RowBounds, scale_of, row_at, rel_in, x_in};
 use rdp::tile::TileDescriptor;
 
 // Texel i is at rel `start` and i times `scale` halves more, and its x is `first_x` and i times `x_step` more.
-#[derive(Drop)]
+#[derive(Clone, Copy)]
 pub(crate) struct Row {
     pub(crate) odd: bool,
     pub(crate) start: usize,

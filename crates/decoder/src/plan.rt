@@ -1,7 +1,7 @@
 // What a picture is decoded by, worked out once a call.
 use rdp::tile::TileDescriptor;
 
-#[derive(Drop)]
+#[derive(Clone, Copy)]
 pub(crate) struct Plan {
     pub(crate) tile: TileDescriptor,
     pub(crate) tlut_fmt: u32,

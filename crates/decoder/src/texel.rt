@@ -12,7 +12,7 @@ use crate::ready::ready_texel;
 use texdec::palette::WHOLE_BYTE;
 
 // Of `reads` the first `count` are meant. A texel of no reads is one of a pair that the step does not know.
-#[derive(Drop)]
+#[derive(Clone, Copy)]
 pub(crate) struct Texel {
     pub(crate) channels: [u8; 4],
     pub(crate) reads: [usize; 4],

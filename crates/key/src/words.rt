@@ -66,7 +66,7 @@ fn word_texels(siz: u32) -> u32
 }
 
 // The whole words of a row: the first of them, how many there are, and how many texels they have.
-#[derive(Drop)]
+#[derive(Clone, Copy)]
 pub(crate) struct RowWords {
     pub(crate) first: usize,
     pub(crate) words: usize,

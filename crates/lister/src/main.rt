@@ -1,6 +1,8 @@
 // Lists a capture. It reads records of 4,112 bytes from standard input to its end and writes a line for each: refusal,
 // flag, distinct kept bytes, texels. A torn tail adds `8 0 0 0`, and empty input gives nothing. A read that fails ends the
 // input. A Rattle program cannot set its exit status, so what went wrong shows in the lines and on standard error alone.
+#![tactic(auto)]
+
 ghost use Rattle.std.specs.Prelude.{◌≡◌, ◌++◌, ◌+◌, ◌*◌, ◌/◌, ◌≤◌, length, take};
 ghost use Rattle.rules.specs.Base.{over};
 ghost use Rattle.rules.specs.Lister.{record_size, line_room, listing};
@@ -17,7 +19,7 @@ const PIECE: usize = RECORDS * RECORD;
 const PIECE_ROOM: usize = (RECORDS + 1) * LINE_ROOM;
 
 // Where the text that was not yet written out ends, and whether there is more input.
-#[derive(Drop)]
+#[derive(Clone, Copy)]
 struct Progress {
     end: usize,
     more: bool,

@@ -18,7 +18,7 @@ use tmem::bank::Bank;
 // The texels of a lookup: four for each place of the bank.
 const LOOKUP_TEXELS: u32 = 4 * Bank::SIZE as u32;
 
-#[derive(Drop)]
+#[derive(Clone, Copy)]
 pub(crate) struct Line {
     pub(crate) refusal: u32,
     pub(crate) flag: u32,

@@ -10,7 +10,7 @@ use crate::word::{MOST, is_same};
 // What the lines read so far state. A number is 0 while no line has stated it, and BAD where two have, or one has badly; MOST stands
 // for all above it. `tuple`: none, RGB_ALPHA or another. `unknown`: a line had another keyword. `untyped`: a TUPLTYPE had no value. No
 // field goes by another.
-#[derive(Drop)]
+#[derive(Clone, Copy)]
 pub(crate) struct Stated {
     pub(crate) width: u32,
     pub(crate) height: u32,
@@ -24,7 +24,7 @@ pub(crate) struct Stated {
 pub(crate) const BAD: u32 = MOST + 1;
 
 // What a file's header states, and how many bytes it takes: 0 where it has no first line or no last.
-#[derive(Drop)]
+#[derive(Clone, Copy)]
 pub(crate) struct Header {
     pub(crate) stated: Stated,
     pub(crate) size: usize,

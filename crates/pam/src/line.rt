@@ -6,7 +6,7 @@ ghost use Rattle.pam.specs.Line.{keyword_of, tuple_of, value_of, words_of, line_
 use crate::word::{count_of, cut_length, front_length, is_same};
 
 // Which keyword a line has. `none`: the line has no token at all.
-#[derive(Drop)]
+#[derive(Clone, Copy)]
 pub(crate) struct Keyword {
     pub(crate) none: bool,
     pub(crate) width: bool,
@@ -18,7 +18,7 @@ pub(crate) struct Keyword {
 }
 
 // What a line's value states as a number, and as a tuple type.
-#[derive(Drop)]
+#[derive(Clone, Copy)]
 pub(crate) struct Value {
     pub(crate) count: u32,
     pub(crate) tuple: u32,
@@ -31,7 +31,7 @@ pub(crate) const RGB_ALPHA: u32 = 1;
 
 pub(crate) const OTHER_TUPLE: u32 = 2;
 
-#[derive(Drop)]
+#[derive(Clone, Copy)]
 pub(crate) struct Line {
     pub(crate) comment: bool,
     pub(crate) keyword: Keyword,

@@ -3,7 +3,7 @@
 
 // A picture's count of reads, a key's count of kept bytes, a written file's count of bytes.
 #[repr(C)]
-#[derive(Drop)]
+#[derive(Clone, Copy)]
 pub struct Answer {
     pub refusal: u32,
     pub count: u32,
@@ -11,7 +11,7 @@ pub struct Answer {
 
 // A load's count of stores, how many of their bytes came from past the source's end, and its number.
 #[repr(C)]
-#[derive(Drop)]
+#[derive(Clone, Copy)]
 pub struct LoadAnswer {
     pub refusal: u32,
     pub count: u32,
@@ -21,7 +21,7 @@ pub struct LoadAnswer {
 
 // A replayed record's count of stores, or of kept bytes, and the number of the last load after it.
 #[repr(C)]
-#[derive(Drop)]
+#[derive(Clone, Copy)]
 pub struct ReplayAnswer {
     pub refusal: u32,
     pub count: u32,
@@ -30,7 +30,7 @@ pub struct ReplayAnswer {
 
 // The width and height of a picture that was read from a file.
 #[repr(C)]
-#[derive(Drop)]
+#[derive(Clone, Copy)]
 pub struct SizeAnswer {
     pub refusal: u32,
     pub width: u32,
@@ -39,7 +39,7 @@ pub struct SizeAnswer {
 
 // How many entries are on each side.
 #[repr(C)]
-#[derive(Drop)]
+#[derive(Clone, Copy)]
 pub struct SplitAnswer {
     pub refusal: u32,
     pub tuning: u32,
@@ -48,7 +48,7 @@ pub struct SplitAnswer {
 
 // A yes (1) or a no (0).
 #[repr(C)]
-#[derive(Drop)]
+#[derive(Clone, Copy)]
 pub struct YesAnswer {
     pub refusal: u32,
     pub yes: u32,
@@ -56,7 +56,7 @@ pub struct YesAnswer {
 
 // The first reason among the bytes that a tile asks for, 0 for none.
 #[repr(C)]
-#[derive(Drop)]
+#[derive(Clone, Copy)]
 pub struct ReasonAnswer {
     pub refusal: u32,
     pub reason: u32,
@@ -65,7 +65,7 @@ pub struct ReasonAnswer {
 // Whether an offered key is right (1) or not (0); where it is not, the lowest wrong address and what is wrong there: 1 missing, 2 left
 // over, 3 another value.
 #[repr(C)]
-#[derive(Drop)]
+#[derive(Clone, Copy)]
 pub struct CheckAnswer {
     pub refusal: u32,
     pub yes: u32,
@@ -75,7 +75,7 @@ pub struct CheckAnswer {
 
 // The sampling flag, and the allocation extent.
 #[repr(C)]
-#[derive(Drop)]
+#[derive(Clone, Copy)]
 pub struct SamplingAnswer {
     pub refusal: u32,
     pub flag: u32,
@@ -84,14 +84,14 @@ pub struct SamplingAnswer {
 }
 
 // Where a text that was written into a lent buffer ends.
-#[derive(Drop)]
+#[derive(Clone, Copy)]
 pub struct TextAnswer {
     pub refusal: u32,
     pub end: usize,
 }
 
 // How many records of a run were replayed, where their text ends, and the number of the last load after them.
-#[derive(Drop)]
+#[derive(Clone, Copy)]
 pub struct RunAnswer {
     pub refusal: u32,
     pub records: usize,

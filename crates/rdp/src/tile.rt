@@ -13,7 +13,7 @@ use crate::units::{LineWords, WordAddr};
 // The largest width and height.
 const SIDE_MOST: u32 = 4096;
 
-#[derive(Drop)]
+#[derive(Clone, Copy)]
 pub struct TileDescriptor {
     pub fmt: u32,
     pub siz: u32,

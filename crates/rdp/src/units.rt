@@ -4,19 +4,19 @@ ghost use Rattle.rules.specs.Picture.{swap_odd};
 ghost use Rattle.rules.specs.Tile.{bank_words};
 
 // An address in 64-bit words.
-#[derive(Drop)]
+#[derive(Clone, Copy)]
 pub struct WordAddr(pub u32);
 
 // The length of a line, in 64-bit words.
-#[derive(Drop)]
+#[derive(Clone, Copy)]
 pub struct LineWords(pub u32);
 
 // The length of a line, in bytes.
-#[derive(Drop)]
+#[derive(Clone, Copy)]
 pub struct LineBytes(pub usize);
 
 // An address in bytes, not yet wrapped at the bank's end.
-#[derive(Drop)]
+#[derive(Clone, Copy)]
 pub struct ByteAddr(pub usize);
 
 impl WordAddr {

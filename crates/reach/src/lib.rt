@@ -1,5 +1,7 @@
 // The addresses that a tile can reach, as a map; whether it reaches a byte that a load wrote; the first reason among the bytes that
 // it asks for; and the lane check. Byte w of a map has a bit for each of the eight bytes of the bank's word w.
+#![tactic(auto)]
+
 mod extent;
 mod fresh;
 pub mod has_load;

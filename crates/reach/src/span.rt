@@ -28,7 +28,7 @@ const EVEN_BYTES: u64 = 0x00ff_00ff_00ff_00ff;
 // The bytes from the start of a word on, wrapped at the bank's end, or where it is `low` at the palette. Where it is `sparse`
 // every second one alone is reached, where it is `odd` the halves of a word change places, and where it is `twice` each
 // address stands for one in the upper half as well.
-#[derive(Drop)]
+#[derive(Clone, Copy)]
 pub(crate) struct Span {
     pub(crate) first: WordAddr,
     pub(crate) bytes: usize,

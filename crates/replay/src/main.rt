@@ -5,6 +5,8 @@
 // a read of it falls short of its length, a sentence says so after the lines of the records before, and that is the end. A read of the
 // records that fails ends the input. A Rattle program cannot set its exit status, so what went wrong shows in the lines and on standard
 // error alone.
+#![tactic(auto)]
+
 ghost use Rattle.std.specs.Prelude.{◌≡◌, ◌+◌, ◌≤◌, length};
 ghost use Rattle.replay.specs.Piece.{piece_size, piece_room};
 
@@ -25,7 +27,7 @@ const AHEAD: usize = 4096;
 
 // How far a piece of the records is done, which bytes of the companion file are held, where the text that was not yet written out
 // ends, whether to go on, and the number of the last load.
-#[derive(Drop)]
+#[derive(Clone, Copy)]
 struct Progress {
     at: usize,
     start: u64,
@@ -36,7 +38,7 @@ struct Progress {
 }
 
 // How many bytes of the records a turn did, where the text ends after it, and the number of the last load.
-#[derive(Drop)]
+#[derive(Clone, Copy)]
 struct Turn {
     done: usize,
     end: usize,

@@ -1,4 +1,6 @@
 // The replay of a capture's loads: one record over a lent bank, written map and last number, and a run of records that writes its lines.
+#![tactic(auto)]
+
 mod fields;
 mod line;
 mod piece;

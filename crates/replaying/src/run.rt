@@ -54,7 +54,7 @@ fn replay_at_hand(
 }
 
 // Where the lines so far end, and the number of the last load.
-#[derive(Drop)]
+#[derive(Clone, Copy)]
 struct Reached {
     end: usize,
     last: u32,

@@ -1,5 +1,7 @@
 // The stored answers of the original Rust, from standard input, replayed through the public calls. oracle/answers/README.md
 // has the layout of a record and says how the answers were made.
+#![tactic(auto)]
+
 mod buffers;
 mod cases;
 mod record;
@@ -8,7 +10,7 @@ use libc::{STDIN_FILENO, STDOUT_FILENO};
 
 // What was found so far, the digest of all bytes so far, and whether the last record was the end record with the digest of all
 // bytes before its own.
-#[derive(Drop)]
+#[derive(Clone, Copy)]
 struct Tally {
     cases: u64,
     wrong: u64,

@@ -2,7 +2,7 @@
 ghost use Rattle.std.specs.Prelude.{◌≡◌};
 ghost use Rattle.rules.specs.Texdec.{accepted_direct, accepted};
 
-#[derive(Drop)]
+#[derive(Clone, Copy)]
 pub struct FormatInfo {
     pub fmt: u32,
     pub siz: u32,

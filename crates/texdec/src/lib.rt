@@ -1,4 +1,6 @@
 // The formats of texdec.rs: which pairs are accepted, and how their bytes become four channels.
+#![tactic(auto)]
+
 mod channel;
 pub mod entry;
 pub mod format;

@@ -9,7 +9,7 @@ use rdp::tile;
 use rdp::tile::TileDescriptor;
 
 // The Rust's `image`: its third number, 1 for a lookup, is `lookup`; its first two are the sizes, at least 1.
-#[derive(Drop)]
+#[derive(Clone, Copy)]
 pub struct TileSampling {
     pub lookup: bool,
     pub width: u32,
@@ -17,7 +17,7 @@ pub struct TileSampling {
 }
 
 // The extent to allocate for a picture.
-#[derive(Drop)]
+#[derive(Clone, Copy)]
 pub struct Extent {
     pub width: u32,
     pub height: u32,

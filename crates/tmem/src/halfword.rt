@@ -7,7 +7,7 @@ use crate::bank::Bank;
 use rdp::units::{ByteAddr, WordAddr};
 
 // A halfword, by its number.
-#[derive(Drop)]
+#[derive(Clone, Copy)]
 pub(crate) struct Halfword(pub(crate) usize);
 
 impl Halfword {

@@ -1,4 +1,6 @@
 // Texture memory, as tmem.rs has it: the bank, the written record, reasons, a load's stores, and the loads.
+#![tactic(auto)]
+
 pub mod asked;
 pub mod bank;
 mod entries;

@@ -10,7 +10,7 @@ use rdp::tile::TileDescriptor;
 use rdp::units::{LineWords, WordAddr};
 
 // The four fields that a load takes of its tile.
-#[derive(Drop)]
+#[derive(Clone, Copy)]
 pub(crate) struct LoadTile {
     pub(crate) fmt: u32,
     pub(crate) siz: u32,

@@ -5,7 +5,7 @@ ghost use Rattle.tmem.specs.Part.{place_of, bytes_in, source_bytes, Taken};
 use crate::packed::{pack, pack_pair};
 
 // A word of the source.
-#[derive(Drop)]
+#[derive(Clone, Copy)]
 pub(crate) struct SourceWord {
     pub(crate) bytes: u64,
     pub(crate) made_up: u32,

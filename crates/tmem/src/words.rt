@@ -9,7 +9,7 @@ use crate::tally::Tally;
 use crate::word::write_load_word;
 
 // How a run goes on from word to word.
-#[derive(Drop)]
+#[derive(Clone, Copy)]
 pub(crate) struct Run {
     // The columns of a word.
     pub(crate) columns: usize,
@@ -30,7 +30,7 @@ const DXT_SWAP: usize = 0x800;
 const WORD_BYTES: usize = 8;
 
 // The column, row and source place of a word.
-#[derive(Drop)]
+#[derive(Clone, Copy)]
 struct WordAt {
     s: usize,
     t: usize,

@@ -1,5 +1,7 @@
 // The exports: every call on numbers and byte slices, for a host in C or Rust. The numbers of a tile and its mode come in the
 // order of the lister's record.
+#![tactic(auto)]
+
 pub mod files;
 pub mod keys;
 pub mod loads;

@@ -7,8 +7,7 @@ use mathlib.Core.Bool.{Bool, true, false}
 use mathlib.Core.Path.{◌≡◌, refl}
 use Rattle.rules.specs.Picture.{swap_odd}
 use borrow.Author.Rules.{rules}
-use Rattle.rdp.proofs.units.swap_odd_line.Statement.{statement}
-use Rattle.rdp.proofs.units.swap_odd_line.Tie as tie
+use Rattle.rdp.proofs.units.swap_odd_line.Goals as goal
 
 small : (b : Bool) → bool_byte b ≤ 1
 small true = omega arith
@@ -18,14 +17,8 @@ swaps : (b : Bool) (a : ℕ) → bit_xor a (bool_byte b * 4) ≡ swap_odd b a
 swaps true a = refl
 swaps false a = xor_zero_r a
 
-cast-result : tie.Need-overflow-cast-result
-cast-result c = search rules
+pub overflow_mul-result : goal.overflow_mul-result
+overflow_mul-result c = omega (arith, small c.args.odd)
 
-mul-result : tie.Need-overflow-mul-result
-mul-result c = omega (arith, small c.args.odd)
-
-returns : tie.Need-returns
+pub returns : goal.returns
 returns c = swaps c.args.odd c.args.addr
-
-pub swap-odd-line-spec : {M : Type 1} → statement M
-swap-odd-line-spec = tie.close (tie.spec cast-result mul-result returns)

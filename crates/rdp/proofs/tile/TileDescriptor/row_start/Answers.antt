@@ -6,14 +6,7 @@ use native.Mathlib.Omega.{arith}
 use borrow.Author.Rules.{rules}
 use mir.Syntax.{w64}
 use mir.Val.{Fits}
-use Rattle.rdp.proofs.tile.TileDescriptor.row_start.Statement.{statement}
-use Rattle.rdp.proofs.tile.TileDescriptor.row_start.Tie as tie
-
-bytes-requires : tie.Need-bytes-requires
-bytes-requires c κs = search rules
-
-cast-result : tie.Need-overflow-cast-result
-cast-result c = search rules
+use Rattle.rdp.proofs.tile.TileDescriptor.row_start.Goals as goal
 
 -- Any row up to 1,024 fits. The bound does not name the row, so a wrong row is refused at the contract, not here.
 fits : (row stride : ℕ) → row ≤ 1024 → stride ≤ 34359738360 → Fits w64 (row * stride)
@@ -21,13 +14,9 @@ fits row stride few long =
     let below : row * stride ≤ 1024 * 34359738360 = mul-le-mul few long in
     omega arith
 
-mul-result : tie.Need-overflow-mul-result
-mul-result c =
-    let long : c.before.bytes.result.0 ≤ 34359738360 = omega (arith, c.before.bytes.ensures) in
+pub overflow_mul-result : goal.overflow_mul-result
+overflow_mul-result c = let long : c.bytes-stride.result.0 ≤ 34359738360 = omega (arith, c.bytes-stride.ensures) in
     fits _ _ (omega arith) long
 
-returns : tie.Need-returns
-returns c = rw c.before.bytes.ensures
-
-pub row-start-spec : {M : Type 1} → statement M
-row-start-spec = tie.close (tie.spec bytes-requires cast-result mul-result returns)
+pub returns : goal.returns
+returns c = rw c.bytes-stride.ensures
