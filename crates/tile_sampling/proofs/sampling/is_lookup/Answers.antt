@@ -8,8 +8,7 @@ use borrow.Author.Tests.{lt-ltb, le-ltb, le-leb, lt-leb}
 use Rattle.rules.specs.Base.{odd}
 use Rattle.rules.specs.Tile.{Tile}
 use Rattle.rules.specs.Sampling.{past_size, is_rgba32, flag}
-use Rattle.tile_sampling.proofs.sampling.is_lookup.Statement.{statement}
-use Rattle.tile_sampling.proofs.sampling.is_lookup.Tie as tie
+use Rattle.tile_sampling.proofs.sampling.is_lookup.Goals as goal
 
 -- what each mode leaves of the last two tests
 second : (tall rest yuv : Bool) → yuv ≡ ((tall && false && rest) || (yuv && true))
@@ -47,38 +46,27 @@ module _ (t : Tile) (mode : ℕ)
     unfolding flag
     without-palette h = rw (p, q, lt-ltb mode 2 h, lt-leb 2 mode h) (first tall rest yuv)
 
-past-size-requires : tie.Need-past-size-requires
-past-size-requires c κs = search rules
-
-returns : tie.Need-returns
+pub returns-then-past_size : goal.returns-then-past_size
 unfolding flag
-returns c = rw (sym c.before.past-size.ensures ∙ c.if1.true)
+returns-then-past_size c = rw (sym c.past_size.ensures ∙ c.if-past_size.true)
 
-past-size-requires-2 : tie.Need-past-size-requires-2
-past-size-requires-2 c κs = search rules
-
-returns-2 : tie.Need-returns-2
+pub returns-then-past_size-2 : goal.returns-then-past_size-2
 unfolding flag
-returns-2 c =
-    let e = c.before.before in
-    rw (sym e.before.past-size.ensures ∙ e.if1.false, sym c.before.past-size2.ensures ∙ c.if2.true)
+returns-then-past_size-2 c =
+    let e = c in
+    rw (sym e.past_size.ensures ∙ e.if-past_size.false, sym c.past_size-2.ensures ∙ c.if-past_size-2.true)
 
-returns-3 : tie.Need-returns-3
-returns-3 c =
-    let d = c.before.before in
-    let e = d.before.before in
-    with-palette _ _ (sym e.before.past-size.ensures ∙ e.if1.false) (sym d.before.past-size2.ensures ∙ d.if2.false)
-    c.before.if3.true
+pub returns-then-tlut-ge2 : goal.returns-then-tlut-ge2
+returns-then-tlut-ge2 c =
+    let d = c in
+    let e = d in
+    with-palette _ _ (sym e.past_size.ensures ∙ e.if-past_size.false) (sym d.past_size-2.ensures ∙ d.if-past_size-2.false)
+    c.if-tlut-ge2.true
 
-returns-4 : tie.Need-returns-4
-returns-4 c =
-    let f = c.before.before.before.before in
-    let d = f.before in
-    let e = d.before.before in
-    without-palette _ _ (sym e.before.past-size.ensures ∙ e.if1.false) (sym d.before.past-size2.ensures ∙ d.if2.false)
-    f.if3.false
-
-pub is-lookup-spec : {M : Type 1} → statement M
-is-lookup-spec =
-    tie.close
-    (tie.spec past-size-requires returns past-size-requires-2 returns-2 returns-3 returns-4)
+pub returns : goal.returns
+returns c =
+    let f = c in
+    let d = f in
+    let e = d in
+    without-palette _ _ (sym e.past_size.ensures ∙ e.if-past_size.false) (sym d.past_size-2.ensures ∙ d.if-past_size-2.false)
+    f.if-tlut-ge2.false

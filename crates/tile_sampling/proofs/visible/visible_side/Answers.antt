@@ -10,8 +10,7 @@ use borrow.Author.Rules.{rules}
 use borrow.Author.Tests.{le-ltb}
 use Rattle.rules.specs.Sampling.{repeats}
 use Rattle.rules.proofs.Computed.{agree_below}
-use Rattle.tile_sampling.proofs.visible.visible_side.Statement.{statement}
-use Rattle.tile_sampling.proofs.visible.visible_side.Tie as tie
+use Rattle.tile_sampling.proofs.visible.visible_side.Goals as goal
 
 -- a period that is not below the size cuts nothing
 uncut : (r : Bool) (period size : ℕ) → size ≤ period → size ≡ cond (r && ltb period size) period size
@@ -22,27 +21,18 @@ uncut false period size h = refl
 shifted : (mask : ℕ) → mask ≤ 31 → 1 * 2 ^ mask % 4294967296 ≡ 2 ^ mask
 shifted mask h = agree_below 32 (λ k. 1 * 2 ^ k % 4294967296) (λ k. 2 ^ k) tt mask (omega arith)
 
-returns : tie.Need-returns
-returns c =
-    let a = c.before.args in
-    let large : 2 ^ 32 ≤ 2 ^ a.mask = pow_mono c.if1.true in
+pub returns-then-mask-gt31 : goal.returns-then-mask-gt31
+returns-then-mask-gt31 c =
+    let a = c.args in
+    let large : 2 ^ 32 ≤ 2 ^ a.mask = pow_mono c.if-mask-gt31.true in
     uncut (repeats a.cm a.mask) (2 ^ a.mask) a.size (omega arith)
 
-shl-period : tie.Need-overflow-shl-period
-shl-period c = search rules
+pub returns-then-repeats-period : goal.returns-then-repeats-period
+returns-then-repeats-period c =
+    let e = shifted c.args.mask (omega arith) in
+    rw (e, ← c.repeats.ensures, rw e at c.if-repeats-period.true)
 
-repeats-requires : tie.Need-repeats-requires
-repeats-requires c κs = search rules
-
-returns-2 : tie.Need-returns-2
-returns-2 c =
-    let e = shifted c.before.before.before.args.mask (omega arith) in
-    rw (e, ← c.before.repeats.ensures, rw e at c.if2.true)
-
-returns-3 : tie.Need-returns-3
-returns-3 c =
-    let e = shifted c.before.before.before.args.mask (omega arith) in
-    rw (← c.before.repeats.ensures, rw e at c.if2.false)
-
-pub visible-side-spec : {M : Type 1} → statement M
-visible-side-spec = tie.close (tie.spec returns shl-period repeats-requires returns-2 returns-3)
+pub returns-else-repeats-period : goal.returns-else-repeats-period
+returns-else-repeats-period c =
+    let e = shifted c.args.mask (omega arith) in
+    rw (← c.repeats.ensures, rw e at c.if-repeats-period.false)
