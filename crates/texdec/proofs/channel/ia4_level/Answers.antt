@@ -3,14 +3,10 @@ use mathlib.Core.Path.{◌≡◌}
 use Prim.Native.Nat.{◌*◌, ◌%◌, ◌≤◌}
 use native.Mathlib.Omega.{arith}
 use lib.Bits.{bit_and, and_le_r}
-use Rattle.texdec.proofs.channel.ia4_level.Statement.{statement}
-use Rattle.texdec.proofs.channel.ia4_level.Tie as tie
+use Rattle.texdec.proofs.channel.ia4_level.Goals as goal
 
-returns : tie.Need-returns
+pub returns : goal.returns
 returns c = let small : bit_and c.args.n 14 ≤ 14 = and_le_r c.args.n 14 in
     let four : bit_and c.args.n 14 * 16 % 256 ≡ bit_and c.args.n 14 * 16 = omega arith in
     let one : bit_and c.args.n 14 * 2 % 256 ≡ bit_and c.args.n 14 * 2 = omega arith in
     rw (four, one)
-
-pub ia4-level-spec : {M : Type 1} → statement M
-ia4-level-spec = tie.close (tie.spec returns)

@@ -2,11 +2,7 @@
 use mathlib.Core.Path.{◌≡◌}
 use Prim.Native.Nat.{◌*◌, ◌%◌}
 use native.Mathlib.Omega.{arith}
-use Rattle.texdec.proofs.channel.widen5.Statement.{statement}
-use Rattle.texdec.proofs.channel.widen5.Tie as tie
+use Rattle.texdec.proofs.channel.widen5.Goals as goal
 
-returns : tie.Need-returns
+pub returns : goal.returns
 returns c = let h : c.args.c * 8 % 256 ≡ c.args.c * 8 = omega arith in rw h
-
-pub widen5-spec : {M : Type 1} → statement M
-widen5-spec = tie.close (tie.spec returns)

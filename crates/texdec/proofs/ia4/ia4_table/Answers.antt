@@ -2,12 +2,8 @@
 use mathlib.Core.Path.{refl}
 use Rattle.rules.specs.Base.{tab, tab_from}
 use Rattle.texdec.specs.Ready.{ia4_table}
-use Rattle.texdec.proofs.ia4.ia4_table.Statement.{statement}
-use Rattle.texdec.proofs.ia4.ia4_table.Tie as tie
+use Rattle.texdec.proofs.ia4.ia4_table.Goals as goal
 
-returns : tie.Need-returns
+pub returns : goal.returns
 unfolding ia4_table tab tab_from
 returns c = refl
-
-pub ia4-table-spec : {M : Type 1} → statement M
-ia4-table-spec = tie.close (tie.spec returns)

@@ -2,12 +2,8 @@
 use mathlib.Core.Path.{refl}
 use Rattle.rules.specs.Base.{tab, tab_from}
 use Rattle.rules.specs.Texdec.{ia8_table}
-use Rattle.texdec.proofs.ia8.ia8_table.Statement.{statement}
-use Rattle.texdec.proofs.ia8.ia8_table.Tie as tie
+use Rattle.texdec.proofs.ia8.ia8_table.Goals as goal
 
-returns : tie.Need-returns
+pub returns : goal.returns
 unfolding ia8_table tab tab_from
 returns c = refl
-
-pub ia8-table-spec : {M : Type 1} → statement M
-ia8-table-spec = tie.close (tie.spec returns)
