@@ -2,17 +2,10 @@
 -- Assumes nothing.
 use mathlib.Core.Path.{◌≡◌}
 use mathlib.Core.Bool.{false}
-use Prim.Native.Nat.{◌+◌, ◌-◌, ◌≤◌}
-use native.Mathlib.Omega.{arith}
-use native.Mathlib.Nat.{add-zero}
-use borrow.Author.Rules.{rules}
+use Prim.Native.Nat.{◌+◌, ◌≤◌}
 use Rattle.splitter.specs.Bodies.{block_size, SameUpTo}
-use Rattle.splitter.proofs.Bodies.{none_differed}
 use Rattle.splitter.proofs.entry.block_differs.Given as goal
 
 abbrev pub invariant-loop-k : goal.invariant-loop-k
 invariant-loop-k l =
     (l.k ≤ block_size) × (l.differs ≡ false → SameUpTo l.a l.b l.start → SameUpTo l.a l.b (l.start + l.k))
-
-abbrev pub decreases-loop-k : goal.decreases-loop-k
-decreases-loop-k l = block_size - l.k

@@ -6,7 +6,6 @@ use lib.ListN.{take, drop}
 use Rattle.rules.specs.Split.{entry_size, capture_size}
 use Rattle.splitter.specs.Bodies.{body_size}
 use Rattle.splitter.proofs.Bodies.{body_part}
-use borrow.Author.Rules.{rules}
 use Rattle.splitter.proofs.entry.body_at.Goals as goal
 
 pub returns : goal.returns

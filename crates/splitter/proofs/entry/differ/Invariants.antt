@@ -1,10 +1,7 @@
 -- `splitter::entry::differ` stops at the first bytes that differ. The loop's invariant: all bytes passed are the same. Assumes nothing.
 use Prim.Native.Nat.{◌≤◌, ◌-◌}
-use native.Mathlib.Omega.{arith}
-use borrow.Author.Rules.{rules}
 use lib.ListN.{length}
 use Rattle.splitter.specs.Bodies.{SameUpTo}
-use Rattle.splitter.proofs.Bodies.{same_more}
 use Rattle.splitter.proofs.entry.differ.Given as goal
 
 abbrev pub invariant-loop-i : goal.invariant-loop-i

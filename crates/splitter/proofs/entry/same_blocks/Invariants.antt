@@ -1,7 +1,5 @@
 -- `splitter::entry::same_blocks` passes over the blocks that are the same. The loop's invariant: all bytes passed are. Assumes nothing.
 use Prim.Native.Nat.{◌-◌, ◌≤◌}
-use native.Mathlib.Omega.{arith}
-use borrow.Author.Rules.{rules}
 use Rattle.splitter.specs.Bodies.{body_size, SameUpTo}
 use Rattle.splitter.proofs.entry.same_blocks.Given as goal
 

@@ -1,15 +1,15 @@
 -- `splitter::group::group_of`: a body that is known is led to its group. Assumes nothing.
 use mathlib.Core.Path.{◌≡◌, ap, ◌∙◌}
 use mathlib.Core.List.{List}
-use Prim.Native.Nat.{ℕ, ◌+◌, ◌*◌, ◌<◌, ◌≤◌}
+use Prim.Native.Nat.{ℕ, ◌<◌}
 use native.Mathlib.Omega.{arith}
 use lib.ListN.{length, get_or}
-use Rattle.rules.specs.Split.{entry_limit, entry_size, body_at}
+use Rattle.rules.specs.Split.{entry_limit, body_at}
 use Rattle.splitter.specs.Bodies.{body_size}
 use Rattle.splitter.specs.Way.{Asked, asked, link, Led}
 use Rattle.splitter.proofs.Bodies.{body_length, bodies_same}
 use Rattle.splitter.proofs.Groups.{below, fits, old_group, old_known, new_group, new_known}
-use Rattle.splitter.proofs.group.group_of.Goals.{After-lead-slot, After-body_at, Then-place-eq-BODY_SIZE, Else-place-eq-BODY_SIZE}
+use Rattle.splitter.proofs.group.group_of.Goals.{After-lead-slot, Then-place-eq-BODY_SIZE, Else-place-eq-BODY_SIZE}
 use Rattle.splitter.proofs.group.group_of.Goals as goal
 
 abbrev questions : After-lead-slot → Asked
@@ -31,13 +31,14 @@ early c = c.requires.known.early _ (below (bodies c) _ _ _ _ c.requires.known _ 
 
 -- both bodies have their bytes
 own-length : (c : After-lead-slot) → length (bodies c c.args.i) ≡ body_size
-own-length c = body_length _ _ c.requires.entry_size_in_bounds
+own-length c = body_length _ _ c.requires.entry_within
 
 first-length : (c : After-lead-slot) → length (bodies c (first c)) ≡ body_size
-first-length c = body_length _ _ (omega (arith, early c, c.requires.entry_size_in_bounds))
+first-length c = body_length _ _ (omega (arith, early c, c.requires.entry_within))
 
 -- the body is that of the group's first entry
-same : (c : Then-place-eq-BODY_SIZE) → let l = (goal.at.Then-place-eq-BODY_SIZE c).After-lead-slot in bodies l c.args.i ≡ bodies l (first l)
+same : (c : Then-place-eq-BODY_SIZE) → let l = (goal.at.Then-place-eq-BODY_SIZE c).After-lead-slot in
+    bodies l c.args.i ≡ bodies l (first l)
 same c =
     let l = (goal.at.Then-place-eq-BODY_SIZE c).After-lead-slot in
     bodies_same _ _ (own-length l) (first-length l)
@@ -45,17 +46,17 @@ same c =
 
 -- another body: there is room for its group, and a place where it differs
 room : (c : Else-place-eq-BODY_SIZE) → c.args.groups < entry_limit
-room c = fits _ _ _ _ _ c.requires.known _ (led (goal.at.Else-place-eq-BODY_SIZE c).After-lead-slot) c.requires.i_lt_entry_limit
+room c = fits _ _ _ _ _ c.requires.known _ (led (goal.at.Else-place-eq-BODY_SIZE c).After-lead-slot) c.requires.room
 
 place_inside : (c : Else-place-eq-BODY_SIZE) → c.differ-place.result < body_size
-place_inside c = omega (arith, c.differ-place.ensures.upper_bound, c.if-place-eq-BODY_SIZE.false)
+place_inside c = omega (arith, c.differ-place.ensures.within, c.if-place-eq-BODY_SIZE.false)
 
 differs : (c : Else-place-eq-BODY_SIZE) → let l = (goal.at.Else-place-eq-BODY_SIZE c).After-lead-slot in
     get_or (bodies l c.args.i) c.differ-place.result 0 ≡ get_or (bodies l (first l)) c.differ-place.result 0 → ⊥
-differs c = (rw (c.body_at-body.ensures, c.body_at.ensures) at c.differ-place.ensures.fact) (place_inside c)
+differs c = (rw (c.body_at-body.ensures, c.body_at.ensures) at c.differ-place.ensures.differ_there) (place_inside c)
 
 pub lead-slot-requires-clause-body_len : goal.lead-slot-requires-clause-body_len
-lead-slot-requires-clause-body_len c = ap length c.body_at-body.ensures ∙ body_length _ _ c.requires.entry_size_in_bounds
+lead-slot-requires-clause-body_len c = ap length c.body_at-body.ensures ∙ body_length _ _ c.requires.entry_within
 
 pub differ-place-requires : goal.differ-place-requires
 differ-place-requires c =
@@ -65,10 +66,10 @@ differ-place-requires c =
 pub returns-then-place-eq-BODY_SIZE : goal.returns-then-place-eq-BODY_SIZE
 returns-then-place-eq-BODY_SIZE c =
     let way = led (goal.at.returns-then-place-eq-BODY_SIZE c).After-lead-slot in
-    let known = same (goal.at.returns-then-place-eq-BODY_SIZE c).Then-place-eq-BODY_SIZE in
+    let is = same (goal.at.returns-then-place-eq-BODY_SIZE c).Then-place-eq-BODY_SIZE in
     record {
-      value = old_group _ _ _ _ _ c.requires.known _ way known;
-      known_2 = old_known _ _ _ _ _ c.requires.known _ way known;
+      group = old_group _ _ _ _ _ c.requires.known _ way is;
+      known_after = old_known _ _ _ _ _ c.requires.known _ way is;
     }
 
 pub bounds-firsts-groups : goal.bounds-firsts-groups
@@ -79,17 +80,17 @@ bounds-body-place c =
     let size = ap length c.body_at-body.ensures ∙ own-length (goal.at.bounds-body-place c).After-lead-slot in
     omega (arith, size, place_inside (goal.at.bounds-body-place c).Else-place-eq-BODY_SIZE)
 
-pub ask-requires-clause-g_lt_entry_limit : goal.ask-requires-clause-g_lt_entry_limit
-ask-requires-clause-g_lt_entry_limit c =
-    (room (goal.at.ask-requires-clause-g_lt_entry_limit c).Else-place-eq-BODY_SIZE, c.lead-slot.ensures.within)
+pub ask-requires-clause-room : goal.ask-requires-clause-room
+ask-requires-clause-room c =
+    (room (goal.at.ask-requires-clause-room c).Else-place-eq-BODY_SIZE, c.lead-slot.ensures.within)
 
 pub returns : goal.returns
 returns c =
     let e = (goal.at.returns c).Else-place-eq-BODY_SIZE in
     let way = led (goal.at.returns c).After-lead-slot in
     let known = c.requires.known in
-    let limit = c.requires.i_lt_entry_limit in
+    let limit = c.requires.room in
     record {
-      value = new_group _ _ _ _ _ known _ way _ limit (place_inside e) (differs e);
-      known_2 = new_known _ _ _ _ _ known _ way _ limit (place_inside e) (differs e) _ _ c.body_at-body.ensures c.ask.ensures;
+      group = new_group _ _ _ _ _ known _ way _ limit (place_inside e) (differs e);
+      known_after = new_known _ _ _ _ _ known _ way _ limit (place_inside e) (differs e) _ _ c.body_at-body.ensures c.ask.ensures;
     }

@@ -1,7 +1,6 @@
 -- `splitter::split::split_refusal` tests the count first, so that its product fits. Assumes nothing.
 use borrow.Author.Tests.{lt-ltb, le-ltb}
 use Rattle.rules.specs.Refusal.{first}
-use borrow.Author.Rules.{rules}
 use Rattle.splitter.proofs.split.split_refusal.Goals as goal
 
 pub returns-then-stated-gt-ENTRY_LIMIT : goal.returns-then-stated-gt-ENTRY_LIMIT

@@ -1,16 +1,12 @@
--- `splitter::split::write_sides` writes side after side. The loop's invariant: the sides below i are the rule's, and i entries are known.
--- Assumes nothing.
+-- `splitter::split::write_sides` writes side after side. Assumes nothing.
 use mathlib.Core.Path.{◌≡◌, refl, ap, sym, ◌∙◌}
-use mathlib.Core.List.{List}
-use Prim.Native.Nat.{ℕ, ◌-◌, ◌≤◌, ◌<◌}
+use Prim.Native.Nat.{◌<◌}
 use native.Mathlib.Omega.{arith}
 use native.Mathlib.Numerals.{add-one}
-use lib.ListN.{length, take, length-set}
-use lib.Seq.{take-suc-set, take_all}
-use borrow.Author.Rules.{rules}
-use Rattle.rules.specs.Split.{body_at, group_of, turn, sides, total}
+use lib.ListN.{length, length-set}
+use lib.Seq.{take-suc-set}
+use Rattle.rules.specs.Split.{body_at, group_of, turn}
 use Rattle.rules.proofs.Splits.{no_sides, no_totals, one_side, none_held_out, sides-more, held_out_more, held_out_within, turn-most}
-use Rattle.splitter.specs.Way.{asked, Known}
 use Rattle.splitter.proofs.Groups.{start_known, next_known}
 use Rattle.splitter.proofs.split.write_sides.Goals.{At-loop-i}
 use Rattle.splitter.proofs.split.write_sides.Goals as goal
@@ -23,8 +19,8 @@ pub returns-then-out-eq0 : goal.returns-then-out-eq0
 returns-then-out-eq0 c =
     let f = body_at c.args.entries.now in
     record {
-      out_after = no_sides f c.args.out.now c.if-out-eq0.true;
-      value = sym (no_totals f c.args.out.now c.if-out-eq0.true);
+      sides_written = no_sides f c.args.out.now c.if-out-eq0.true;
+      counted = sym (no_totals f c.args.out.now c.if-out-eq0.true);
     }
 
 pub loop-i-init : goal.loop-i-init
@@ -44,8 +40,9 @@ pub overflow_add-held_out : goal.overflow_add-held_out
 overflow_add-held_out c =
     let f = body_at c.args.entries.now in
     let turns = turn-most (group_of f c.loop-i.i) in
-    let side = c.side_of-side.ensures ∙ ap turn c.group_of-group.ensures.value in
-    record { fits = omega (arith, c.requires.out_len_bound, size (goal.at.overflow_add-held_out c).At-loop-i, c.loop-i.invariant.4, held_out_within f c.loop-i.i) }
+    let side = c.side_of-side.ensures ∙ ap turn c.group_of-group.ensures.group in
+    let most = size (goal.at.overflow_add-held_out c).At-loop-i in
+    record { fits = omega (arith, c.requires.room, most, c.loop-i.invariant.4, held_out_within f c.loop-i.i) }
 
 pub loop-i-preserved : goal.loop-i-preserved
 loop-i-preserved c =
@@ -57,17 +54,7 @@ loop-i-preserved c =
       omega arith,
       rw length-set (omega arith),
       length-set l.out l.i side.result ∙ l.invariant.2,
-      rw (add-one, front, l.invariant.3, side.ensures, g.value) (sym (rw add-one at (sides-more f l.i))),
-      rw (l.invariant.4, side.ensures, g.value) (sym (held_out_more f l.i)),
-      next_known f l.i _ _ _ _ _ l.invariant.5.groups g.value c.groups_with-groups.ensures g.known_2,
+      rw (add-one, front, l.invariant.3, side.ensures, g.group) (sym (rw add-one at (sides-more f l.i))),
+      rw (l.invariant.4, side.ensures, g.group) (sym (held_out_more f l.i)),
+      next_known f l.i _ _ _ _ _ l.invariant.5.groups g.group c.groups_with-groups.ensures g.known_after,
     )
-
-pub returns : goal.returns
-returns c =
-    let l = c.loop-i in
-    let f = body_at c.args.entries.now in
-    let end : l.i ≡ length c.args.out.now = omega (arith, size (goal.at.returns c).At-loop-i) in
-    record {
-      out_after = sym (take_all l.i l.out (omega arith)) ∙ l.invariant.3 ∙ ap (sides f) end;
-      value = l.invariant.4 ∙ ap (λ n. total 1 (sides f n)) end;
-    }

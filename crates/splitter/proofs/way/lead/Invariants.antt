@@ -1,9 +1,6 @@
 -- `splitter::way::lead` goes the way of a body. The loop's invariant: the slot is one of this way. Assumes nothing.
 use Prim.Native.Nat.{◌<◌, ◌*◌, ◌/◌, ◌-◌}
-use native.Mathlib.Omega.{arith}
-use lib.ListN.{get_or}
 use Rattle.splitter.specs.Way.{asked, Passes}
-use Rattle.splitter.proofs.Ways.{starts, passes_yes}
 use Rattle.splitter.proofs.way.lead.Given as goal
 
 abbrev pub invariant-loop-groups : goal.invariant-loop-groups

@@ -1,11 +1,7 @@
 -- `splitter::way::pass_noes` goes the way of a body while its answers are noes. The loop's invariant: the slot is one of this way, and
 -- none before the one it began at. Assumes nothing.
-use mathlib.Core.Path.{sym, ◌∙◌}
 use Prim.Native.Nat.{◌<◌, ◌≤◌, ◌*◌, ◌/◌, ◌-◌}
-use native.Mathlib.Omega.{arith}
-use lib.ListN.{get_or}
 use Rattle.splitter.specs.Way.{asked, Passes}
-use Rattle.splitter.proofs.Ways.{passes_no}
 use Rattle.splitter.proofs.way.pass_noes.Given as goal
 
 abbrev pub invariant-loop-at : goal.invariant-loop-at
