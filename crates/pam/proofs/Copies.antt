@@ -6,6 +6,7 @@ use lib.ListN.{length, take, drop, length-append}
 use lib.Seq.{drop-drop, length-take-le}
 use Rattle.rules.specs.Base.{over}
 
+-- xs, which equals the part, in place of as many bytes of the buffer
 module _ (part old xs : List ℕ) (n : ℕ) (e : xs ≡ part) (k : n ≡ length part) where
   pub copied : xs ++ drop n old ≡ over part old
   unfolding over

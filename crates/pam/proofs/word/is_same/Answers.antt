@@ -1,14 +1,11 @@
 -- `pam::word::is_same` stops at the first bytes that differ. Assumes nothing.
-use mathlib.Core.Path.{refl, sym, ◌∙◌}
+use mathlib.Core.Path.{sym, ◌∙◌}
 use borrow.Author.Rules.{rules}
 use Rattle.pam.proofs.Texts.{other_length, same_more, same_stop, same_end}
 use Rattle.pam.proofs.word.is_same.Goals as goal
 
 pub returns-then-s-t : goal.returns-then-s-t
 returns-then-s-t c = sym (other_length _ _ c.if-s-t.true)
-
-pub loop-i-init : goal.loop-i-init
-loop-i-init c = (search rules, (search rules, refl))
 
 pub returns-then-s-i : goal.returns-then-s-i
 returns-then-s-i c =
