@@ -1,6 +1,6 @@
 -- Laws of one byte of a map: what several bits do at once, or where one of them is.
 use mathlib.Core.Path.{◌≡◌, refl, ap, ap₂, sym, ◌∙◌}
-use mathlib.Core.Bool.{Bool, true, false, cond, not, ◌&&◌, ◌||◌, or_false}
+use mathlib.Core.Bool.{Bool, true, false, cond, not, ◌&&◌, ◌||◌, or-false}
 use mathlib.Core.List.{List, [], ◌∷◌}
 use Prim.Native.Nat.{ℕ, zero, suc, ◌+◌, ◌-◌, ◌*◌, ◌/◌, ◌%◌, ◌^◌, ◌<◌, ◌≤◌}
 use native.Mathlib.Omega.{arith}
@@ -105,8 +105,8 @@ some_bit b s h (suc n) l =
     go (no e) = rw (added (b n), ne_eqb n s (λ q. e (sym q))) (there (b s) (b n) (dec_lt s n))
       where
         there : (c d : Bool) → Dec (s < n) → ((ltb s n && c) || (d && false)) ≡ (ltb s (suc n) && c)
-        there c true (yes q) = rw (lt-ltb s n q, lt-ltb s (suc n) (omega arith)) (or_false c)
-        there c false (yes q) = rw (lt-ltb s n q, lt-ltb s (suc n) (omega arith)) (or_false c)
+        there c true (yes q) = rw (lt-ltb s n q, lt-ltb s (suc n) (omega arith)) (or-false c)
+        there c false (yes q) = rw (lt-ltb s n q, lt-ltb s (suc n) (omega arith)) (or-false c)
         there c true (no q) = rw (le-ltb s n (omega (arith, q)), le-ltb s (suc n) (omega (arith, q, e)))
         there c false (no q) = rw (le-ltb s n (omega (arith, q)), le-ltb s (suc n) (omega (arith, q, e)))
 

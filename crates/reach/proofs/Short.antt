@@ -50,9 +50,9 @@ module _ (m : List ℕ) (t : Tile) (mode : ℕ) where
   unfolding eight_in
   row_eight y = rw (row_word y)
 
-  row_lanes : (y z : ℕ) → y % 2 ≡ z % 2 → lanes_in (row y) 0 ≡ lanes_in (row z) 0
+  row-lanes : (y z : ℕ) → y % 2 ≡ z % 2 → lanes_in (row y) 0 ≡ lanes_in (row z) 0
   unfolding lanes_in
-  row_lanes y z e = rw e
+  row-lanes y z e = rw e
 
   module _ (short : row_bytes t ≤ 8) (small : (i : ℕ) → get_or m i 0 < 256) where
     row_clear : (y : ℕ) → bit_and (lanes_in (row y) 0) (eight_in m (row 0) (y * t.line)) ≡ 0 → first_reason m (reach_row t mode y) ≡ 0
@@ -75,8 +75,8 @@ module _ (m : List ℕ) (t : Tile) (mode : ℕ) where
       where
         go : Dec (k % 2 ≡ 1) → row_lanes m (row 0) (row 1) t.line (y * t.line) k ≡ 0
             → bit_and (lanes_in (row (y + k)) 0) (eight_in m (row 0) (y * t.line + k * t.line)) ≡ 0
-        go (yes o) z = rw (row_lanes (y + k) 1 (omega arith)) (rw (eq-eqb (k % 2) 1 o) at z)
-        go (no o) z = rw (row_lanes (y + k) 0 (omega (arith, o))) (rw (ne_eqb (k % 2) 1 o) at z)
+        go (yes o) z = rw (row-lanes (y + k) 1 (omega arith)) (rw (eq-eqb (k % 2) 1 o) at z)
+        go (no o) z = rw (row-lanes (y + k) 0 (omega (arith, o))) (rw (ne_eqb (k % 2) 1 o) at z)
 
     -- and where their words have nothing at all
     pub four-blank : (y : ℕ) → ors 4 (λ k. eight_in m (row 0) (y * t.line + k * t.line)) ≡ 0 → (k : ℕ) → k < 4

@@ -1,6 +1,5 @@
 -- `texdec::nibble::decode_i4` is the rule, by what its callees ensure. Assumes nothing.
 use native.Mathlib.Omega.{arith}
-use borrow.Author.Rules.{rules}
 use Rattle.texdec.proofs.Nibbles.{nibble_small}
 use Rattle.texdec.proofs.nibble.decode_i4.Goals as goal
 

@@ -9,7 +9,6 @@ use Rattle.rules.specs.Refusal.{first}
 use Rattle.rules.specs.Calls.{sampling_tests, pair_tests, bad_lane, bad_pair}
 use Rattle.rules.proofs.Refused.{numbered, first-before, first-after}
 use Rattle.rdp.specs.View.{tile_of}
-use borrow.Author.Rules.{rules}
 use Rattle.texdec.proofs.pair.pair_refusal.Goals as goal
 
 -- once tile and mode passed, the answer is by the lane and the pair
@@ -29,28 +28,20 @@ returns-then-no-ne0 c =
 
 pub returns-then-lane_outside : goal.returns-then-lane_outside
 returns-then-lane_outside c =
-    let l = c in
-    let t = l in
-    let a = t.args in
-    answer (tile_of a.tile) a.tlut a.lane _ true _ t.tile_and_mode_refusal-no.ensures t.if-no-ne0.false
-    (sym l.lane_outside.ensures ∙ c.if-lane_outside.true) refl
+    let a = c.args in
+    answer (tile_of a.tile) a.tlut a.lane _ true _ c.tile_and_mode_refusal-no.ensures c.if-no-ne0.false
+    (sym c.lane_outside.ensures ∙ c.if-lane_outside.true) refl
 
 pub returns-then-validate_tlut : goal.returns-then-validate_tlut
 returns-then-validate_tlut c =
-    let p = c in
-    let l = p in
-    let t = l in
-    let a = t.args in
-    answer (tile_of a.tile) a.tlut a.lane _ false true t.tile_and_mode_refusal-no.ensures t.if-no-ne0.false
-    (sym l.lane_outside.ensures ∙ p.if-lane_outside.false)
-    (sym p.validate_tlut.ensures ∙ c.if-validate_tlut.true)
+    let a = c.args in
+    answer (tile_of a.tile) a.tlut a.lane _ false true c.tile_and_mode_refusal-no.ensures c.if-no-ne0.false
+    (sym c.lane_outside.ensures ∙ c.if-lane_outside.false)
+    (sym c.validate_tlut.ensures ∙ c.if-validate_tlut.true)
 
 pub returns-else-validate_tlut : goal.returns-else-validate_tlut
 returns-else-validate_tlut c =
-    let p = c in
-    let l = p in
-    let t = l in
-    let a = t.args in
-    answer (tile_of a.tile) a.tlut a.lane _ false false t.tile_and_mode_refusal-no.ensures t.if-no-ne0.false
-    (sym l.lane_outside.ensures ∙ p.if-lane_outside.false)
-    (sym p.validate_tlut.ensures ∙ c.if-validate_tlut.false)
+    let a = c.args in
+    answer (tile_of a.tile) a.tlut a.lane _ false false c.tile_and_mode_refusal-no.ensures c.if-no-ne0.false
+    (sym c.lane_outside.ensures ∙ c.if-lane_outside.false)
+    (sym c.validate_tlut.ensures ∙ c.if-validate_tlut.false)

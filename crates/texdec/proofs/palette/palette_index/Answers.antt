@@ -1,7 +1,6 @@
 -- `texdec::palette::palette_index` is the rule, part by part. Assumes nothing.
 use Rattle.std.proofs.Common.{◌≢◌, arith}
 use borrow.Author.Tests.{ne_eqb}
-use borrow.Author.Rules.{rules}
 use Rattle.texdec.proofs.palette.palette_index.Goals as goal
 
 pub returns-in-32 : goal.returns-in-32

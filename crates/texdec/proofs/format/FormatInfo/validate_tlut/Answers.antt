@@ -1,5 +1,4 @@
 -- `texdec::format::FormatInfo::validate_tlut` is the rule's test: its last part is what `validate` says. Assumes nothing.
-use borrow.Author.Rules.{rules}
 use Rattle.rules.specs.Texdec.{accepted}
 use Rattle.texdec.proofs.format.FormatInfo.validate_tlut.Goals as goal
 

@@ -1,0 +1,8 @@
+-- `reach::extent::reach_rows` puts the rule's parts together. Assumes nothing.
+use borrow.Author.Rules.{rules}
+use Rattle.rules.specs.Reach.{reach_rows}
+use Rattle.reach.proofs.extent.reach_rows.Goals as goal
+
+pub returns : goal.returns
+unfolding reach_rows
+returns c = rw (c.lesser.ensures, c.axis_extent.ensures, c.row_period.ensures)

@@ -1,0 +1,27 @@
+-- `reach::word::is_blank` looks at the bytes of one word or two. Assumes nothing.
+use mathlib.Core.Path.{sym, ◌∙◌}
+use mathlib.Core.Bool.{true≢false}
+use native.Mathlib.Omega.{arith}
+use borrow.Author.Tests.{eqb-true}
+use Rattle.rules.proofs.Ranges.{both}
+use Rattle.reach.proofs.Bytes.{blank_both}
+use borrow.Author.Rules.{rules}
+use Rattle.reach.proofs.word.is_blank.Goals as goal
+
+pub word_bytes-requires-then-twice : goal.word_bytes-requires-then-twice
+word_bytes-requires-then-twice c =
+    let s = c in
+    record {
+      written_len = s.requires.written_len;
+      at_lt_bank_words = omega (arith, s.requires.at_lt_bank_words.1 c.if-twice.true);
+    }
+
+pub returns-then-twice : goal.returns-then-twice
+returns-then-twice c h bits =
+    let b = both _ _ h in
+    let own = sym c.word_bytes.ensures ∙ eqb-true _ _ b.0 in
+    blank_both _ _ _ bits own (λ t. sym c.word_bytes-then-twice.ensures ∙ eqb-true _ _ b.1)
+
+pub returns : goal.returns
+returns c h bits =
+    blank_both _ _ _ bits (sym c.word_bytes-2.ensures ∙ eqb-true _ _ h) (λ t. absurd (true≢false (sym t ∙ c.if-twice.false)))
