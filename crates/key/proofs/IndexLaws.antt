@@ -179,7 +179,8 @@ module _ (t : Tile) (mode lane : ℕ) (b : List ℕ) (a : ℕ) (by_table : 2 ≤
       (mem_cases a _ _ m))
       (mem_cases a _ _ (rw (reads_of swap rel x) at m))
 
-  hits_reading : (R : Reading) (A : ℕ) → ((p : ℕ) → p < 2 → Reader t mode lane b a R A p) → IndexHit t lane b a A → mem a (trail R b) ≡ true
+  hits_reading : (R : Reading) (A : ℕ) → ((p : ℕ) → p < 2 → Reader t mode lane b a R A p) → IndexHit t lane b a A
+      → mem a (trail R b) ≡ true
   hits_reading R A reader h =
       ⊎_elim
       (λ e. let r = reader 0 (omega arith) in r.among (rw (reads_of r.swap r.rel r.x, r.there, ← e) (mem_head a _)))

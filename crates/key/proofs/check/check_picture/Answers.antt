@@ -15,15 +15,7 @@ lent c = record {
   offer_whole = c.requires.bank_len.1;
 }
 
-pub lowest_wrong-at-requires : goal.lowest_wrong-at-requires
-lowest_wrong-at-requires c = lent (goal.at.lowest_wrong-at-requires c).After-note_picture
-
-pub answer_at-requires : goal.answer_at-requires
-answer_at-requires c = record {
-  lent = lent (goal.at.answer_at-requires c).After-note_picture;
-  at_le_bank_size = c.lowest_wrong-at.ensures.to;
-}
-
 pub returns : goal.returns
 returns c =
-    c.answer_at.ensures ∙ checked_by_notes _ _ _ _ _ _ (lent (goal.at.returns c).After-note_picture) c.note_picture.ensures _ c.lowest_wrong-at.ensures
+    c.answer_at.ensures
+    ∙ checked_by_notes _ _ _ _ _ _ (lent (goal.at.returns c).After-note_picture) c.note_picture.ensures _ c.lowest_wrong-at.ensures

@@ -2,18 +2,13 @@
 -- Assumes nothing.
 use mathlib.Core.Path.{◌≡◌}
 use mathlib.Core.List.{List}
-use Prim.Native.Nat.{ℕ, ◌*◌, ◌-◌, ◌≤◌}
-use lib.ListN.{length}
+use Prim.Native.Nat.{ℕ, ◌*◌, ◌≤◌}
 use Rattle.rules.specs.Base.{distinct}
 use Rattle.key.specs.Notes.{Notes, KeySoFar}
 use Rattle.key.proofs.cut.cut.Given as goal
 
 abbrev pub invariant-loop-part : goal.invariant-loop-part
-invariant-loop-part l =
-    (l.part ≤ 64)
-    × (length l.key ≡ 4096)
-    × (l.count ≤ 64 * l.part)
-    × ((r : List ℕ) → Notes l.notes r → KeySoFar l.bank r (64 * l.part) l.key × (l.count ≡ distinct (64 * l.part) r))
-
-abbrev pub decreases-loop-part : goal.decreases-loop-part
-decreases-loop-part l = 64 - l.part
+invariant-loop-part l = record {
+  few : l.count ≤ 64 * l.part;
+  so_far : (r : List ℕ) → Notes l.notes r → KeySoFar l.bank r (64 * l.part) l.key × (l.count ≡ distinct (64 * l.part) r);
+}

@@ -1,16 +1,9 @@
 -- `key::reads::note_texel` notes by the mode: through the lookup table, or by the pair. Assumes nothing.
-use native.Mathlib.Omega.{arith}
 use Rattle.rules.proofs.Formats.{accepted-direct, texel-tlut, texel-direct}
 use Rattle.key.proofs.reads.note_texel.Goals as goal
 
-pub note_direct-requires : goal.note_direct-requires
-note_direct-requires c =
-    record {
-      siz_value = accepted-direct _ _ _ c.if-tlut-ge2.false c.requires.siz_value;
-      base_lt_bank_size = omega (arith, c.bytes.ensures);
-      rel_bound = omega arith;
-      notes_len = omega arith;
-    }
+pub note_direct-requires-clause-siz_value : goal.note_direct-requires-clause-siz_value
+note_direct-requires-clause-siz_value c = accepted-direct _ _ _ c.if-tlut-ge2.false c.requires.siz_value
 
 pub returns-then-tlut-ge2 : goal.returns-then-tlut-ge2
 returns-then-tlut-ge2 c =
