@@ -15,7 +15,7 @@ fn copy_texels(file: &[u8], start: usize, count: usize, picture: &mut [u8])
     ensures { picture.new ≡ over (take count (drop start file.now)) picture.old }
 {
     let end = start + count;
-    bytes::copy(&file[start..end], picture);
+    picture[..count].copy_from_slice(&file[start..end]);
 }
 
 // The picture in a file: its texels at the front of `picture`, and its size. Bytes after the texels are not read.

@@ -18,7 +18,9 @@ fn put_part(part: &[u8], out: &mut [u8], at: usize) -> usize
     ensures value { result ≡ at + length part.now }
     ensures out_after { out.new ≡ over (take at out.old ++ part.now) out.old }
 {
-    at + bytes::copy(part, &mut out[at..])
+    let end = at + part.len();
+    out[at..end].copy_from_slice(part);
+    end
 }
 
 // The header of a picture at the front of `out`, and its length.

@@ -1,5 +1,4 @@
 -- `record::fields::record_tile` reads each field where the rule has it. Assumes nothing.
-use borrow.Author.Rules.{rules}
 use Rattle.rules.specs.Lister.{record_tile}
 use Rattle.record.proofs.fields.record_tile.Goals as goal
 

@@ -10,12 +10,12 @@ overflow_cast-result c = omega (arith, c.shared_slice_known-1.given c.args.k)
 
 pub returns-then-k-bytes : goal.returns-then-k-bytes
 returns-then-k-bytes c = record {
-      value = refl;
-      upper_bound = omega (arith, c.shared_slice_known-1.given c.args.k);
-    }
+  value = refl;
+  upper_bound = omega (arith, c.shared_slice_known-1.given c.args.k);
+}
 
 pub returns-else-k-bytes : goal.returns-else-k-bytes
 returns-else-k-bytes c = record {
-      value = sym (get_or-eq_default c.args.bytes.now 0 c.if-k-bytes.false);
-      upper_bound = search rules;
-    }
+  value = sym (get_or-eq_default c.args.bytes.now 0 c.if-k-bytes.false);
+  upper_bound = search rules;
+}

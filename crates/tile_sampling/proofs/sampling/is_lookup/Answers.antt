@@ -3,7 +3,6 @@ use mathlib.Core.Path.{◌≡◌, refl, sym, ◌∙◌}
 use mathlib.Core.Bool.{Bool, true, false, not, ◌&&◌, ◌||◌}
 use Prim.Native.Nat.{ℕ, ◌<◌, ◌≤◌}
 use lib.Dec.{ltb, eqb}
-use borrow.Author.Rules.{rules}
 use borrow.Author.Tests.{lt-ltb, le-ltb, le-leb, lt-leb}
 use Rattle.rules.specs.Base.{odd}
 use Rattle.rules.specs.Tile.{Tile}
@@ -53,20 +52,14 @@ returns-then-past_size c = rw (sym c.past_size.ensures ∙ c.if-past_size.true)
 pub returns-then-past_size-2 : goal.returns-then-past_size-2
 unfolding flag
 returns-then-past_size-2 c =
-    let e = c in
-    rw (sym e.past_size.ensures ∙ e.if-past_size.false, sym c.past_size-2.ensures ∙ c.if-past_size-2.true)
+    rw (sym c.past_size.ensures ∙ c.if-past_size.false, sym c.past_size-2.ensures ∙ c.if-past_size-2.true)
 
 pub returns-then-tlut-ge2 : goal.returns-then-tlut-ge2
 returns-then-tlut-ge2 c =
-    let d = c in
-    let e = d in
-    with-palette _ _ (sym e.past_size.ensures ∙ e.if-past_size.false) (sym d.past_size-2.ensures ∙ d.if-past_size-2.false)
+    with-palette _ _ (sym c.past_size.ensures ∙ c.if-past_size.false) (sym c.past_size-2.ensures ∙ c.if-past_size-2.false)
     c.if-tlut-ge2.true
 
 pub returns : goal.returns
 returns c =
-    let f = c in
-    let d = f in
-    let e = d in
-    without-palette _ _ (sym e.past_size.ensures ∙ e.if-past_size.false) (sym d.past_size-2.ensures ∙ d.if-past_size-2.false)
-    f.if-tlut-ge2.false
+    without-palette _ _ (sym c.past_size.ensures ∙ c.if-past_size.false) (sym c.past_size-2.ensures ∙ c.if-past_size-2.false)
+    c.if-tlut-ge2.false

@@ -1,6 +1,5 @@
 -- `tile_sampling::sampling::past_size` is the rule's test: its last part is what `exceeds` says. Assumes nothing.
 use mathlib.Core.Path.{sym, ◌∙◌}
-use borrow.Author.Rules.{rules}
 use Rattle.tile_sampling.proofs.sampling.past_size.Goals as goal
 
 pub returns-then-repeats : goal.returns-then-repeats

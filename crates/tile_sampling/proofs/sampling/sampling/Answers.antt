@@ -4,7 +4,6 @@ use mathlib.Core.Bool.{Bool, cond}
 use mathlib.Core.List.{[], ◌∷◌}
 use Prim.Native.Nat.{ℕ, max}
 use mir.Val.{bool_byte}
-use borrow.Author.Rules.{rules}
 use Rattle.rules.specs.Tile.{Tile}
 use Rattle.rules.specs.Refusal.{Outcome, first}
 use Rattle.rules.specs.Sampling.{flag, extent_width, extent_height}
@@ -31,8 +30,7 @@ returns c =
     let b = c.from_tile-found.result.lookup in
     let f = c.from_tile-found.ensures in
     let e = c.allocation_extent-extent.ensures in
-    let d = c in
-    sampled-is _ _ _ _ _ (sym d.tile_and_mode_refusal-no.ensures ∙ d.if-no-ne0.false)
+    sampled-is _ _ _ _ _ (sym c.tile_and_mode_refusal-no.ensures ∙ c.if-no-ne0.false)
     f.lookup_value
     (e.0 ∙ ap (cond b 4096) f.width_value.0)
     (e.1 ∙ ap (cond b 4) f.width_value.1)

@@ -1,5 +1,4 @@
 -- `tile_sampling::visible::visible` cuts both sides. Assumes nothing.
-use borrow.Author.Rules.{rules}
 use Rattle.tile_sampling.proofs.visible.visible.Goals as goal
 
 pub returns : goal.returns
