@@ -6,7 +6,8 @@ use Prim.Native.Nat.{ℕ, zero, suc, ◌+◌, ◌-◌, ◌*◌, ◌/◌, ◌%◌
 use native.Mathlib.Omega.{arith}
 use native.Mathlib.Decide.{ℕ_discrete, dec_lt}
 use native.Mathlib.Nat.{one-mul, zero-div, mod-eq_of_lt}
-use lib.Bits.{bit_and, bit_or, and_step, or_step, or_shr, and_shr, or_zero_r, and_zero_r, and_le_l, and_le_r, and_comm, and_mask, or_add_and}
+use lib.Bits.{bit_and, bit_or, and_step, or_step, or_shr, and_shr, or_zero_r, and_zero_r}
+use lib.Bits.{and_le_l, and_le_r, and_comm, and_mask, or_add_and}
 use lib.Dec.{eqb, ltb}
 use lib.ListN.{get_or}
 use lib.Pow.{shl_exact, shl-shr}
@@ -130,7 +131,8 @@ zero_ors (suc n) f e = rw (zero_ors n f (λ k h. e k (omega arith)), e n (omega 
 zero_byte : (m : List ℕ) (from k : ℕ) → eight_bytes m from ≡ 0 → k < 8 → get_or m (from + k) 0 ≡ 0
 unfolding eight_bytes
 zero_byte m from k e h =
-    sym (shl-shr (get_or m (from + k) 0) (8 * k)) ∙ rw (ors_zero 8 (λ k. get_or m (from + k) 0 * 2 ^ (8 * k)) e k h) (zero-div (2 ^ (8 * k)))
+    let none = ors_zero 8 (λ k. get_or m (from + k) 0 * 2 ^ (8 * k)) e k h in
+    sym (shl-shr (get_or m (from + k) 0) (8 * k)) ∙ rw none (zero-div (2 ^ (8 * k)))
 
 -- where two numbers are zero in one, both are
 pub or_zero : (x y : ℕ) → bit_or x y ≡ 0 → (x ≡ 0) × (y ≡ 0)

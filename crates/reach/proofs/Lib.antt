@@ -9,6 +9,5 @@ pub mod Spans
 pub mod Reached
 pub mod Asked
 pub mod Short
-pub mod Pairs
 pub mod Lanes
 pub mod One

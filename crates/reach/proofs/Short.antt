@@ -5,7 +5,7 @@ use mathlib.Core.List.{List}
 use Prim.Native.Nat.{ℕ, ◌+◌, ◌*◌, ◌/◌, ◌%◌, ◌<◌, ◌≤◌}
 use native.Mathlib.Omega.{arith}
 use native.Mathlib.Decide.{ℕ_discrete}
-use native.Mathlib.Nat.{add-mul, mul-le-mul}
+use native.Mathlib.Nat.{add-mul}
 use lib.Bits.{bit_and, and_zero_r}
 use lib.ListN.{get_or}
 use borrow.Author.Tests.{eq-eqb, ne_eqb}
@@ -18,19 +18,6 @@ use Rattle.reach.proofs.Joined.{none_all, reason_search}
 use Rattle.reach.proofs.Bytes.{ors_zero}
 use Rattle.reach.proofs.Spans.{reached_words, row_reached}
 use Rattle.reach.proofs.Asked.{clear_word}
-
--- so many lines are so many words at most
-pub words_on : (rows most line : ℕ) → rows ≤ most → line < bank_words → rows * line ≤ most * bank_words
-words_on rows most line h l = mul-le-mul h (omega (arith, l))
-
--- one four more has nothing
-pub one_more : (m : List ℕ) (one : Span) (line n : ℕ) → BlankFours m one line n
-    → ors 4 (λ k. eight_in m one (4 * n * line + k * line)) ≡ 0 → BlankFours m one line (n + 1)
-one_more m one line n b e i h = go (ℕ_discrete i n)
-  where
-    go : Dec (i ≡ n) → ors 4 (λ k. eight_in m one (4 * i * line + k * line)) ≡ 0
-    go (yes q) = rw q e
-    go (no q) = b i (omega (arith, q))
 
 -- the first word of a row, from that of row 0
 stepped : (low : Bool) (a p : ℕ) → ((a + p) % bank_words + 0) % words_of low ≡ ((a + 0) % bank_words + p) % words_of low

@@ -93,5 +93,5 @@ module _ (w : ℕ) where
     pub word_any : (twice : Bool) (g : ℕ → ℕ) (n : ℕ) → ((k : ℕ) → k < n → g k < 8)
         → any (is_written m) (concat (tab n (λ k. twin twice (8 * w + g k)))) ≡ word_meets twice m w (ors n (λ k. 2 ^ g k))
     word_any twice g n e =
-        part_any (is_written m) (word_meets twice m w) (found_none twice) (found_more twice) (λ k. twin twice (8 * w + g k)) (λ k. 2 ^ g k) n
-        (λ k h. found_twin twice (g k) (e k h))
+        part_any (is_written m) (word_meets twice m w) (found_none twice) (found_more twice) (λ k. twin twice (8 * w + g k))
+        (λ k. 2 ^ g k) n (λ k h. found_twin twice (g k) (e k h))

@@ -1,5 +1,4 @@
--- `reach::extent::reach_rows` puts the rule's parts together. Assumes nothing.
-use borrow.Author.Rules.{rules}
+-- `reach::extent::reach_rows` puts the rule's parts together.
 use Rattle.rules.specs.Reach.{reach_rows}
 use Rattle.reach.proofs.extent.reach_rows.Goals as goal
 

@@ -2,7 +2,6 @@
 -- the 512 lines.
 use Rattle.std.proofs.Common.{◌≡◌, ℕ, ◌*◌, ◌≤◌, min, arith}
 use Rattle.std.specs.Int.Count.{count_trailing_zeros}
-use Rattle.std.proofs.lemmas.Nat.{trailing_le}
 use Rattle.rules.specs.Reach.{trailing_zeros, row_period}
 use Rattle.rules.proofs.Computed.{agree_below}
 use Rattle.reach.proofs.extent.row_period.Goals as goal
@@ -11,9 +10,6 @@ use Rattle.reach.proofs.extent.row_period.Goals as goal
 zeros_of : (l : ℕ) → l ≤ 511 → min (count_trailing_zeros 64 (8 * l)) 12 ≡ trailing_zeros 12 (8 * l)
 unfolding trailing_zeros count_trailing_zeros
 zeros_of l h = agree_below 512 (λ l. min (count_trailing_zeros 64 (8 * l)) 12) (λ l. trailing_zeros 12 (8 * l)) tt l (omega arith)
-
-pub overflow_cast-zeros : goal.overflow_cast-zeros
-overflow_cast-zeros c = omega (arith, trailing_le 64 c.bytes-stride.result.0)
 
 pub returns : goal.returns
 unfolding row_period

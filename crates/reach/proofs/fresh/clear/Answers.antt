@@ -1,5 +1,5 @@
 -- `reach::fresh::clear` stores zeros from the front on.
-use Rattle.std.proofs.Common.{◌≡◌, ℕ, zero, ◌<◌, sym, ◌∙◌, arith}
+use Rattle.std.proofs.Common.{zero, ◌<◌, sym, ◌∙◌, arith}
 use Rattle.std.proofs.Math.Seq.{ext_get_or}
 use Rattle.std.proofs.lemmas.List.{length-replicate, get_or-replicate}
 use Rattle.rules.specs.Tile.{map_size, fresh_map}

@@ -1,6 +1,5 @@
--- `reach::has_load::tile_has_load` answers the call's outcome. Assumes nothing.
+-- `reach::has_load::tile_has_load` answers the call's outcome.
 use mathlib.Core.Path.{◌≡◌, sym, ◌∙◌}
-use borrow.Author.Rules.{rules}
 use Rattle.rules.specs.Tile.{written_size}
 use Rattle.rules.specs.Refusal.{first}
 use Rattle.rules.specs.Calls.{map_tests, has_load_call}
@@ -21,8 +20,7 @@ returns-then-no-ne0 c = refused_is _ _ _ _ _ c.map_refusal-no.ensures c.if-no-ne
 
 pub reach_meets-requires : goal.reach_meets-requires
 reach_meets-requires c =
-    let a = c.args in
-    let w = within written_size a.written.now (tile_of a.tile) a.tlut (zero (goal.at.reach_meets-requires c).Else-no-ne0) in
+    let w = within written_size c.args.written.now (tile_of c.args.tile) c.args.tlut (zero (goal.at.reach_meets-requires c).Else-no-ne0) in
     record { written_len = w.0; in_range = w.1 }
 
 pub returns : goal.returns

@@ -1,7 +1,5 @@
--- `reach::lane::after_slot` leaves at the first pair that differs: each return rewrites by the tests that led there. Assumes
--- nothing.
+-- `reach::lane::after_slot` leaves at the first pair that differs: each return rewrites by the tests that led there.
 use mathlib.Core.Path.{sym, ◌∙◌}
-use borrow.Author.Rules.{rules}
 use Rattle.rules.specs.Base.{any}
 use Rattle.rules.specs.Reach.{uneven}
 use Rattle.reach.proofs.lane.after_slot.Goals as goal
@@ -13,27 +11,22 @@ returns-then-pair_differs c = rw (sym c.pair_differs.ensures ∙ c.if-pair_diffe
 pub returns-then-pair_differs-2 : goal.returns-then-pair_differs-2
 unfolding uneven any
 returns-then-pair_differs-2 c =
-    let d = c in
-    rw (sym d.pair_differs.ensures ∙ d.if-pair_differs.false, sym c.pair_differs-2.ensures ∙ c.if-pair_differs-2.true)
+    rw (sym c.pair_differs.ensures ∙ c.if-pair_differs.false, sym c.pair_differs-2.ensures ∙ c.if-pair_differs-2.true)
 
 pub returns-then-pair_differs-3 : goal.returns-then-pair_differs-3
 unfolding uneven any
 returns-then-pair_differs-3 c =
-    let e = c in
-    let d = e in
     rw (
-      sym d.pair_differs.ensures ∙ d.if-pair_differs.false,
-      sym e.pair_differs-2.ensures ∙ e.if-pair_differs-2.false,
+      sym c.pair_differs.ensures ∙ c.if-pair_differs.false,
+      sym c.pair_differs-2.ensures ∙ c.if-pair_differs-2.false,
       sym c.pair_differs-3.ensures ∙ c.if-pair_differs-3.true,
     )
 
 pub returns : goal.returns
 unfolding uneven any
 returns c =
-    let e = c in
-    let d = e in
     rw (
-      sym d.pair_differs.ensures ∙ d.if-pair_differs.false,
-      sym e.pair_differs-2.ensures ∙ e.if-pair_differs-2.false,
+      sym c.pair_differs.ensures ∙ c.if-pair_differs.false,
+      sym c.pair_differs-2.ensures ∙ c.if-pair_differs-2.false,
       sym c.pair_differs-3.ensures ∙ c.if-pair_differs-3.false,
     )

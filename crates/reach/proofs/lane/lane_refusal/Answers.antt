@@ -1,5 +1,4 @@
--- `reach::lane::lane_refusal` answers the first test that fails: each return rewrites by the tests that led there. Assumes
--- nothing.
+-- `reach::lane::lane_refusal` answers the first test that fails: each return rewrites by the tests that led there.
 use borrow.Author.Tests.{eq-eqb, ne_eqb}
 use Rattle.rules.specs.Refusal.{first}
 use Rattle.reach.proofs.lane.lane_refusal.Goals as goal

@@ -1,6 +1,5 @@
--- `reach::lane::palette_nonreplicated_bytes` answers and leaves the call's outcome. Assumes nothing.
+-- `reach::lane::palette_nonreplicated_bytes` answers and leaves the call's outcome.
 use mathlib.Core.Path.{◌≡◌, sym, ◌∙◌}
-use borrow.Author.Rules.{rules}
 use Rattle.rules.specs.Refusal.{first}
 use Rattle.rules.specs.Calls.{lane_tests, lane_call}
 use Rattle.rules.proofs.Refused.{refused_is, done_is}

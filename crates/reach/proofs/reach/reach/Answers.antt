@@ -1,6 +1,5 @@
--- `reach::reach::reach` answers and leaves the call's outcome. Assumes nothing.
+-- `reach::reach::reach` answers and leaves the call's outcome.
 use mathlib.Core.Path.{◌≡◌, sym, ◌∙◌}
-use borrow.Author.Rules.{rules}
 use Rattle.rules.specs.Tile.{map_size}
 use Rattle.rules.specs.Refusal.{first}
 use Rattle.rules.specs.Calls.{map_tests, reach_call}
@@ -21,8 +20,7 @@ returns-then-no-ne0 c = refused_is _ _ _ _ _ c.map_refusal-no.ensures c.if-no-ne
 
 pub mark_reach-requires : goal.mark_reach-requires
 mark_reach-requires c =
-    let a = c.args in
-    let w = within map_size a.map.now (tile_of a.tile) a.tlut (zero (goal.at.mark_reach-requires c).Else-no-ne0) in
+    let w = within map_size c.args.map.now (tile_of c.args.tile) c.args.tlut (zero (goal.at.mark_reach-requires c).Else-no-ne0) in
     record { map_len = w.0; in_range = w.1 }
 
 pub returns : goal.returns

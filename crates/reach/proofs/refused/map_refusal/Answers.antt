@@ -1,8 +1,6 @@
--- `reach::refused::map_refusal` answers the first test that fails: each return rewrites by the tests that led there. Assumes
--- nothing.
+-- `reach::refused::map_refusal` answers the first test that fails: each return rewrites by the tests that led there.
 use mathlib.Core.Path.{◌≡◌}
 use lib.ListN.{length}
-use borrow.Author.Rules.{rules}
 use borrow.Author.Tests.{eq-eqb, ne_eqb}
 use Rattle.rules.specs.Refusal.{first}
 use Rattle.reach.proofs.refused.map_refusal.Goals as goal

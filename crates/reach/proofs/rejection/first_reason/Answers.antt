@@ -1,5 +1,4 @@
--- `reach::rejection::first_reason` asks the palette where the reach has none. Assumes nothing.
-use borrow.Author.Rules.{rules}
+-- `reach::rejection::first_reason` asks the palette where the reach has none.
 use Rattle.reach.proofs.Asked.{reach-answers, palette_answers}
 use Rattle.reach.proofs.rejection.first_reason.Goals as goal
 

@@ -1,6 +1,5 @@
--- `reach::rejection::rejection` answers the call's outcome. Assumes nothing.
+-- `reach::rejection::rejection` answers the call's outcome.
 use mathlib.Core.Path.{◌≡◌, sym, ◌∙◌}
-use borrow.Author.Rules.{rules}
 use Rattle.rules.specs.Tile.{reasons_size}
 use Rattle.rules.specs.Refusal.{first}
 use Rattle.rules.specs.Calls.{map_tests, rejection_call}
@@ -21,8 +20,7 @@ returns-then-no-ne0 c = refused_is _ _ _ _ _ c.map_refusal-no.ensures c.if-no-ne
 
 pub first_reason-requires : goal.first_reason-requires
 first_reason-requires c =
-    let a = c.args in
-    let w = within reasons_size a.reasons.now (tile_of a.tile) a.tlut (zero (goal.at.first_reason-requires c).Else-no-ne0) in
+    let w = within reasons_size c.args.reasons.now (tile_of c.args.tile) c.args.tlut (zero (goal.at.first_reason-requires c).Else-no-ne0) in
     record { reasons_len = w.0; in_range = w.1 }
 
 pub returns : goal.returns

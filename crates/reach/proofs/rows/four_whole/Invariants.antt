@@ -1,16 +1,8 @@
--- `reach::rows::four_whole` joins word after word. The loop's invariant: `all` is the words below k in one number. Assumes nothing.
-use mathlib.Core.Path.{◌≡◌}
-use Prim.Native.Nat.{◌+◌, ◌-◌, ◌*◌, ◌≤◌}
-use native.Mathlib.Numerals.{add-one}
-use native.Mathlib.Omega.{arith}
-use borrow.Author.Rules.{rules}
+-- `reach::rows::four_whole` joins word after word: `all` is the words below k in one number.
+use Rattle.std.proofs.Common.{◌≡◌, ◌+◌, ◌*◌}
 use Rattle.reach.specs.Words.{ors}
 use Rattle.reach.specs.Span.{eight_in}
-use Rattle.reach.proofs.Short.{words_on}
 use Rattle.reach.proofs.rows.four_whole.Given as goal
 
 abbrev pub invariant-loop-k : goal.invariant-loop-k
-invariant-loop-k l = (l.k ≤ 4) × (l.all ≡ ors l.k (λ n. eight_in l.reasons l.one (l.from + n * l.line)))
-
-abbrev pub decreases-loop-k : goal.decreases-loop-k
-decreases-loop-k l = 4 - l.k
+invariant-loop-k l = l.all ≡ ors l.k (λ n. eight_in l.reasons l.one (l.from + n * l.line))

@@ -1,20 +1,10 @@
--- `reach::word::is_blank` looks at the bytes of one word or two. Assumes nothing.
+-- `reach::word::is_blank` looks at the bytes of one word or two.
 use mathlib.Core.Path.{sym, ◌∙◌}
 use mathlib.Core.Bool.{true≢false}
-use native.Mathlib.Omega.{arith}
 use borrow.Author.Tests.{eqb-true}
 use Rattle.rules.proofs.Ranges.{both}
 use Rattle.reach.proofs.Bytes.{blank_both}
-use borrow.Author.Rules.{rules}
 use Rattle.reach.proofs.word.is_blank.Goals as goal
-
-pub word_bytes-requires-then-twice : goal.word_bytes-requires-then-twice
-word_bytes-requires-then-twice c =
-    let s = c in
-    record {
-      written_len = s.requires.written_len;
-      at_lt_bank_words = omega (arith, s.requires.at_lt_bank_words.1 c.if-twice.true);
-    }
 
 pub returns-then-twice : goal.returns-then-twice
 returns-then-twice c h bits =

@@ -1,4 +1,4 @@
--- `reach::word::join` is the list that its contract names. Assumes nothing.
+-- `reach::word::join` is the list that its contract names.
 use borrow.Author.Rules.{rules}
 use Rattle.reach.specs.Words.{joined}
 use Rattle.reach.proofs.word.join.Goals as goal

@@ -1,5 +1,4 @@
--- `reach::word::mark_bit` tests the two bytes of an address. Assumes nothing.
-use borrow.Author.Rules.{rules}
+-- `reach::word::mark_bit` tests the two bytes of an address.
 use mathlib.Core.Path.{◌∙◌}
 use Rattle.reach.proofs.Bytes.{bit_shifted, bit_none, bit_some}
 use Rattle.reach.proofs.word.mark_bit.Goals as goal
@@ -11,6 +10,5 @@ returns-then-written-i-eq0 c =
 
 pub returns-else-written-i-eq0 : goal.returns-else-written-i-eq0
 returns-else-written-i-eq0 c =
-    let s = c in
-    let a = s.args in
-    bit_shifted a.k 8 s.requires.at_lt_bank_words.1 ∙ bit_some a.written.now a.at a.k c.if-written-i-eq0.false
+    let a = c.args in
+    bit_shifted a.k 8 c.requires.at_lt_bank_words.1 ∙ bit_some a.written.now a.at a.k c.if-written-i-eq0.false

@@ -1,5 +1,4 @@
--- `reach::word::meets` is the test that its contract names. Assumes nothing.
-use borrow.Author.Rules.{rules}
+-- `reach::word::meets` is the test that its contract names.
 use Rattle.reach.specs.Words.{meets}
 use Rattle.reach.proofs.word.meets.Goals as goal
 

@@ -1,5 +1,4 @@
--- `reach::word::word_bytes` joins the two halves of a word's numbers. Assumes nothing.
-use borrow.Author.Rules.{rules}
+-- `reach::word::word_bytes` joins the two halves of a word's numbers.
 use Rattle.reach.specs.Words.{word_bytes}
 use Rattle.reach.proofs.word.word_bytes.Goals as goal
 

@@ -1,12 +1,6 @@
--- `reach::span::Span::upper` is bytes of the upper half as a span. Assumes nothing.
-use borrow.Author.Rules.{rules}
-use Rattle.reach.proofs.Spans.{upper-reached, upper_bounds}
+-- `reach::span::Span::upper` is bytes of the upper half as a span.
+use Rattle.reach.proofs.Spans.{upper-reached}
 use Rattle.reach.proofs.span.Span.upper.Goals as goal
 
-pub returns : goal.returns
-returns c =
-    let a = c.args in
-    record {
-      result_value = upper-reached a.word a.bytes c.requires;
-      bounds = upper_bounds a.word a.bytes c.requires;
-    }
+pub returns-clause-result_value : goal.returns-clause-result_value
+returns-clause-result_value c = upper-reached c.args.word c.args.bytes c.requires
