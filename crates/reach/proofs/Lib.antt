@@ -2,6 +2,7 @@
 pub mod Within
 pub mod Joined
 pub mod Differ
+pub mod Pairs
 pub mod Bytes
 pub mod Words
 pub mod Axes
