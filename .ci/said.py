@@ -2,6 +2,7 @@
 refused because it no longer fits its function: a field or a need is gone, it has other arguments, or two types differ. Only these
 words say that a fact is not proved; the tests have an example of each (tests/gate/run)."""
 
+import os
 import re
 
 import tree
@@ -25,8 +26,15 @@ PARTS = re.compile(
     r"computed as far as they go, the two types (?:differ only|first differ) where one has `([^`]*)`.*?the other has `([^`]*)`"
 )
 SIDES = re.compile(r"`([^`]*)` ≟ `([^`]*)` does not hold")
-# A test that does not compute to true.
+# A test that does not compute to true, and one that does not compute: it waits on a definition that the theorem does not unfold.
 TEST = re.compile(r"expected type `(?:[^`\s]*\.)?T \(([^`]*)\)`,? but this has type `(?:[^`\s]*\.)?Unit\b")
+STUCK = re.compile(r"computed as far as it goes, the expected one begins ")
+
+# A goal that `search` does not prove: in a note, with its place in the source, and in the line of its function.
+NOTE = re.compile(r"note: (src/[^\s:]*):(\d+):\d+: it is not proved that .*\(`([^`]*)`\)")
+SEARCHED = re.compile(r"fn (\S+): no proof: .*`search` (?:did not prove|does not close) (.*)")
+# An answer that is for a goal or a place which the function no longer has.
+LOST = re.compile(r"has no `[^`]*` that can be named|is not in scope|has no field")
 
 BETWEEN = {"→", "≡", "≤", "<"}
 EQUATIONS = {"≡", "_≡_", "Path"}
@@ -89,7 +97,7 @@ def values_differ(message):
     """Of a message that two types differ: they state one thing of different values."""
     types, wholes, parts = TYPES.search(message), WHOLES.search(message), PARTS.search(message)
     if failed_test(message):
-        return True
+        return not STUCK.search(message)
     if not fits(types[1], types[2]):
         return False
     if parts:
@@ -105,3 +113,67 @@ def unproved(message):
         return values_differ(message)
     sides = SIDES.search(message)
     return sides is not None and not is_type(sides[1]) and not is_type(sides[2])
+
+
+def heading(changes):
+    """The line of a log that begins what was said with these changes made."""
+    return f"== with {', '.join(change.name for change in changes)}\n"
+
+
+def tries(log):
+    """The checks that a log has: for each, the names of the changes that were made, or none where no line names them; and each thing
+    that it says."""
+    found = []
+    for part in re.split(r"^(?=== with )", log, flags=re.M):
+        named = re.match(r"== with (.*)\n", part)
+        if named or part.strip():
+            found.append((named[1].split(", ") if named else None, entries(part)))
+    return found
+
+
+def function_at(crate, file, line):
+    """The names that lead to the function of the crate that has this line; none, where none has it."""
+    path = f"crates/{crate}/{file}"
+    if not os.path.exists(path):
+        return ""
+    text = tree.read(path)
+    rows = [(text.count("\n", 0, one.start) + 1, text.count("\n", 0, one.end) + 1, one) for one in tree.functions(path)]
+    around = [(first, one) for first, last, one in rows if first <= line <= last]
+    return "::".join(max(around, key=lambda row: row[0])[1].path) if around else ""
+
+
+def spoken_of(crate, log, where):
+    """What the log of a check says against the declarations of a function, or of a file of theorems: for each a declaration, words,
+    and whether they say that a fact is not proved. Where an answer of the function no longer fits, that `search` proves a goal no
+    more is such a word only if values are known at which the goal is false: the goal may have lost its answer."""
+    *outer, last = where.split("::")
+    proof = "/".join(outer + [r"\+?" + last])
+    by_hand = re.compile(rf"(?:\S*/)?proofs/{proof}(?:/(?:Proof|Answers|Invariants))?\.antt:\d+:\d+: error: `([^`]*)`: (.*)")
+    lost = any(by_hand.match(entry) and LOST.search(entry) for entry in log)
+    for entry in log:
+        hand, note, search = by_hand.match(entry), NOTE.match(entry), SEARCHED.match(entry)
+        if hand:
+            yield hand[1], hand[2], unproved(hand[2])
+        elif note and function_at(crate, note[1], int(note[2])) == where:
+            yield note[3], entry, not lost or "allow values at which this goal is false" in entry
+        elif search and search[1] == f"{crate}::{where}":
+            yield from [(goal, entry, not lost) for goal in re.findall(r"`([^`]*)`", search[2])]
+
+
+def fault(crate, checks, change):
+    """Nothing, where a check that has the change refuses its fact; else what is wrong."""
+    where, declaration, *test = (change.fact.split() + ["", ""])[: max(2, len(change.fact.split()))]
+    found = [one for names, log in checks if names is None or change.name in names for one in spoken_of(crate, log, where)]
+    at_fact = [(words, is_no) for goal, words, is_no in found if goal == declaration and (not test or failed_test(words) == test)]
+    if any(is_no for _, is_no in at_fact):
+        return None
+    if at_fact:
+        return f"its proof only no longer fits: {at_fact[0][0][:200]}"
+    return "nothing is refused there"
+
+
+def lines_of(crate, logs, where):
+    """The lines of a function in the logs of checks; where there are none, the first thing that is said to be an error."""
+    found = [entry for log in logs for entry in log if re.match(rf"fn {crate}::{re.escape(where)}: |note: .*`{crate}::{re.escape(where)}`", entry)]
+    errors = [entry for log in logs for entry in log if re.search(r"\berror\b|cannot be made|^rt: ", entry)]
+    return found or errors[:1]

@@ -7,15 +7,17 @@ import os
 import re
 from typing import NamedTuple
 
-# Text in which a bracket or a word means nothing: comments, byte strings and bytes.
-QUIET = re.compile(r"//[^\n]*|/\*.*?\*/|\bb\"(?:\\.|[^\"\\])*\"|\bb'(?:\\[^']+|[^'\\\n])'", re.S)
-SCOPE = re.compile(r"\b(?:impl\b\s*(?:<[^>]*>)?\s*(\w+)\s*(?:<[^>]*>)?|mod\s+(\w+))\s*\{")
+# Text in which a bracket or a word means nothing: comments, strings, characters and bytes.
+QUIET = re.compile(r"//[^\n]*|/\*.*?\*/|\bb?\"(?:\\.|[^\"\\])*\"|\"(?:\\.|[^\"\\])*\"|(?:\bb)?'(?:\\[^']+|[^'\\\n])'", re.S)
+SCOPE = re.compile(r"\b(?:impl\b\s*(?:<[^>]*>)?\s*(?:[\w:]+\s*(?:<[^>]*>)?\s+for\s+)?(\w+)\s*(?:<[^>]*>)?|mod\s+(\w+))\s*\{")
 FUNCTION = re.compile(r'(?:\b(pub)(\s*\([^)]*\))?\s+)?(?:(?:const|unsafe|extern\s+"C")\s+)*\bfn\s+(\w+)')
-# What can follow a function's parameters: a clause, an array's type, its body, or the end of one without a body.
-AFTER = re.compile(r"\b(requires|ensures|ghost)\s*\{|[\[{;]")
+# What can follow a function's parameters: a clause, which can have a star and a name, an array's type, its body, or the end of one
+# without a body.
+AFTER = re.compile(r"\b(requires|ensures|ghost)\b(\*?)(?:\s+\w+)?\s*\{|[\[{;]")
 ITEM = re.compile(r"\b(struct|enum|const|type|mod|trait|fn)\s+(?!fn\b)(\w+)")
-# What an antt file brings from a library of its own crate: the library, the module, and the names where they are listed.
-USED = re.compile(r"^ *(?:pub )?use Rattle·(\w+)·(specs|proofs)\.\w+\.([^\s{]+?)(?:\.{(?:(.*)})?.*|\s.*)?$", re.M)
+# What an antt file brings from a crate of the repository: the crate, specs or proofs, the module, and the names where they are
+# listed.
+USED = re.compile(r"^ *(?:pub )?use Rattle\.(\w+)\.(specs|proofs)\.([^\s{]+?)(?:\.{(?:(.*)})?.*|\s.*)?$", re.M)
 NAMED = re.compile(r"(?:^|[,{(])\s*(?:pub(?:\s*\([^)]*\))?\s+)?(?:mut\s+)?(\w+)\s*:(?!:)")
 DECLARED = re.compile(
     r"(?:unfoldable )?(?:abbrev )?(?:axiom )?(?:pub )?"
@@ -23,9 +25,9 @@ DECLARED = re.compile(
 )
 
 
-def enter(arguments):
-    """Goes to the tree to read: the one whose root the first argument names, or the repository that has this file."""
-    os.chdir(arguments[0] if arguments else os.path.join(os.path.dirname(os.path.abspath(__file__)), ".."))
+def enter(root=None):
+    """Goes to the tree to read: the one that is named, or the repository that has this file."""
+    os.chdir(root or os.path.join(os.path.dirname(os.path.abspath(__file__)), ".."))
 
 
 def read(path):
@@ -33,10 +35,28 @@ def read(path):
         return file.read()
 
 
+def write(path, text):
+    with open(path, "w", encoding="utf-8") as file:
+        file.write(text)
+
+
+def listed():
+    """What crates.txt lists, in its order: for each crate the libraries that it names."""
+    lines = [line.split("#")[0].partition(":") for line in read("crates.txt").split("\n")]
+    return {named.split()[0]: libraries.split() for named, _, libraries in lines if named.strip()}
+
+
 def crates():
     """The crates that crates.txt lists, in its order."""
-    names = [line.split("#")[0].split(":")[0].strip() for line in read("crates.txt").split("\n")]
-    return [name for name in names if name]
+    return list(listed())
+
+
+def needed(crate):
+    """The crates of the repository that a crate needs, those below first, and itself last."""
+    found = []
+    for name in [one for one in listed()[crate] if one in listed()]:
+        found += [one for one in needed(name) if one not in found]
+    return found + [crate]
 
 
 def sources(crate):
@@ -51,8 +71,9 @@ def module(path):
 
 
 def bare(text):
-    """A text of Rattle or Rust with what is quiet blanked, each character where it was."""
-    return QUIET.sub(lambda quiet: re.sub(r"[^\n]", " ", quiet[0]), text)
+    """A text of Rattle or Rust with what is quiet blanked, each character where it was. A string without a bracket stays."""
+    blanked = lambda quiet: quiet if re.fullmatch(r'"[^(){}\[\];]*"', quiet) else re.sub(r"[^\n]", " ", quiet)
+    return QUIET.sub(lambda quiet: blanked(quiet[0]), text)
 
 
 def closing(text, opening):
@@ -88,7 +109,7 @@ class Function(NamedTuple):
     parameters: list
     lent: list  # the places, from 0, of the parameters that are lent to be written
     answers: bool
-    clauses: list  # pairs: requires, ensures or ghost, and the clause's text on one line
+    clauses: list  # pairs: requires, ensures or ghost, with its star if it has one, and the clause's text on one line
     start: int
     body: int
     end: int
@@ -116,7 +137,7 @@ def head(text, place):
         if part[0] == "{":
             return clauses, part.start(), place
         if part[1]:
-            clauses.append((part[1], " ".join(text[part.end() : place - 1].split())))
+            clauses.append((part[1] + part[2], " ".join(text[part.end() : place - 1].split())))
 
 
 def functions(path):
@@ -193,12 +214,13 @@ def declarations(path):
 
 def words(text):
     """The words of a text of antt that can be names. An operator stands in a text by its parts."""
-    return {word for word in re.split(r"[\s(){}\[\].,;«»_]+", text) if word}
+    return {word for word in re.split(r"[\s(){}\[\].,;«»◌]+", text) if word}
 
 
 def brought(path):
-    """What the `use` lines of an antt file bring from its own crate: pairs of a name and the declarations that it can mean, each
-    as its file and its name. All that a file can mean is meant, where a line lists no names, or one that the file does not have."""
+    """What the `use` lines of an antt file bring from the crates of the repository: pairs of a name and the declarations that it
+    can mean, each as its file and its name. All that a file can mean is meant, where a line lists no names, or one that the file
+    does not have."""
     for crate, library, module, names in USED.findall(read(path)):
         files = [f"crates/{crate}/{library}/{module.replace('.', '/')}.antt"]
         while not os.path.exists(files[-1]) and files[-1].count("/") > 3:
@@ -236,17 +258,25 @@ def rests_on(path, names):
 
 
 class Change(NamedTuple):
-    """A change that an edit makes: what the documents call it, where it must be refused, its file, and the texts replaced."""
+    """A change that an edit makes: what the documents call it, where it must be refused, its file, the texts replaced, and those in
+    their place."""
 
     name: str
     fact: str
     file: str
     old: list
+    new: list
 
 
-def edits():
-    """The must-fail edits of every crate."""
-    return sorted(glob.glob("crates/*/must-fail/*.edit"))
+def edits(crate="*"):
+    """The must-fail edits of a crate, or of every crate."""
+    return sorted(glob.glob(f"crates/{crate}/must-fail/*.edit"))
+
+
+def log_of(path):
+    """Where the log of an edit is kept."""
+    crate, name = path.split("/")[1], os.path.basename(path)[: -len(".edit")]
+    return f"target/must-fail/{crate}/{name}/.log"
 
 
 def changes(path):
@@ -257,9 +287,11 @@ def changes(path):
         if word == "file":
             file = rest
         elif word == "change":
-            made.append(Change(rest, "", file, []))
+            made.append(Change(rest, "", file, [], []))
         elif word == "fact" and made:
             made[-1] = made[-1]._replace(fact=rest)
         elif word == "old" and made:
             made[-1].old.append(rest)
+        elif word in ("new", "new:") and made:
+            made[-1].new.append(rest)
     return made

@@ -25,6 +25,6 @@ reasons = tt
 
 pub calls : T (all_same call_table)
 unfolding call_table tab_from tab concat all same how_many stamped stamps list4 split_stores whole_stores word_stores tile_row tile_stores
-    hardware_stores entry_stores entry_row row_stores stored written reasoned made_up first settle call_or tile_call tlut_hardware_call
-    tlut_rows_call
+    hardware_stores entry_stores entry_row row_stores tlut_stores stored written reasoned made_up first settle call_or tile_call
+    tlut_hardware_call tlut_rows_call
 calls = tt
