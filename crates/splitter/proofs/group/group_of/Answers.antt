@@ -9,7 +9,7 @@ use Rattle.splitter.specs.Bodies.{body_size}
 use Rattle.splitter.specs.Way.{Asked, asked, link, Led}
 use Rattle.splitter.proofs.Bodies.{body_length, bodies_same}
 use Rattle.splitter.proofs.Groups.{below, fits, old_group, old_known, new_group, new_known}
-use Rattle.splitter.proofs.group.group_of.Goals.{After-lead-slot, Then-place-eq-BODY_SIZE, Else-place-eq-BODY_SIZE}
+use Rattle.splitter.proofs.group.group_of.Goals.{After-lead-slot, Else-place-eq-BODY_SIZE}
 use Rattle.splitter.proofs.group.group_of.Goals as goal
 
 abbrev questions : After-lead-slot → Asked
@@ -36,24 +36,12 @@ own-length c = body_length _ _ c.requires.entry_within
 first-length : (c : After-lead-slot) → length (bodies c (first c)) ≡ body_size
 first-length c = body_length _ _ (omega (arith, early c, c.requires.entry_within))
 
--- the body is that of the group's first entry
-same : (c : Then-place-eq-BODY_SIZE) → let l = (goal.at.Then-place-eq-BODY_SIZE c).After-lead-slot in
-    bodies l c.args.i ≡ bodies l (first l)
-same c =
-    let l = (goal.at.Then-place-eq-BODY_SIZE c).After-lead-slot in
-    bodies_same _ _ (own-length l) (first-length l)
-    (rw (c.body_at-body.ensures, c.body_at.ensures, c.if-place-eq-BODY_SIZE.true) at c.differ-place.ensures.same_up_to)
-
--- another body: there is room for its group, and a place where it differs
+-- another body: there is room for its group, and the place where it differs is one of the body
 room : (c : Else-place-eq-BODY_SIZE) → c.args.groups < entry_limit
 room c = fits _ _ _ _ _ c.requires.known _ (led (goal.at.Else-place-eq-BODY_SIZE c).After-lead-slot) c.requires.room
 
 place_inside : (c : Else-place-eq-BODY_SIZE) → c.differ-place.result < body_size
 place_inside c = omega (arith, c.differ-place.ensures.within, c.if-place-eq-BODY_SIZE.false)
-
-differs : (c : Else-place-eq-BODY_SIZE) → let l = (goal.at.Else-place-eq-BODY_SIZE c).After-lead-slot in
-    get_or (bodies l c.args.i) c.differ-place.result 0 ≡ get_or (bodies l (first l)) c.differ-place.result 0 → ⊥
-differs c = (rw (c.body_at-body.ensures, c.body_at.ensures) at c.differ-place.ensures.differ_there) (place_inside c)
 
 pub lead-slot-requires-clause-body_len : goal.lead-slot-requires-clause-body_len
 lead-slot-requires-clause-body_len c = ap length c.body_at-body.ensures ∙ body_length _ _ c.requires.entry_within
@@ -65,11 +53,13 @@ differ-place-requires c =
 
 pub returns-then-place-eq-BODY_SIZE : goal.returns-then-place-eq-BODY_SIZE
 returns-then-place-eq-BODY_SIZE c =
-    let way = led (goal.at.returns-then-place-eq-BODY_SIZE c).After-lead-slot in
-    let is = same (goal.at.returns-then-place-eq-BODY_SIZE c).Then-place-eq-BODY_SIZE in
+    let l = (goal.at.returns-then-place-eq-BODY_SIZE c).After-lead-slot in
+    -- the body is that of the group's first entry
+    let all = rw (c.body_at-body.ensures, c.body_at.ensures, c.if-place-eq-BODY_SIZE.true) at c.differ-place.ensures.same_up_to in
+    let same : bodies l c.args.i ≡ bodies l (first l) = bodies_same _ _ (own-length l) (first-length l) all in
     record {
-      group = old_group _ _ _ _ _ c.requires.known _ way is;
-      known_after = old_known _ _ _ _ _ c.requires.known _ way is;
+      group = old_group _ _ _ _ _ c.requires.known _ (led l) same;
+      known_after = old_known _ _ _ _ _ c.requires.known _ (led l) same;
     }
 
 pub bounds-firsts-groups : goal.bounds-firsts-groups
@@ -90,7 +80,9 @@ returns c =
     let way = led (goal.at.returns c).After-lead-slot in
     let known = c.requires.known in
     let limit = c.requires.room in
+    let inside = place_inside e in
+    let differs = (rw (c.body_at-body.ensures, c.body_at.ensures) at c.differ-place.ensures.differ_there) inside in
     record {
-      group = new_group _ _ _ _ _ known _ way _ limit (place_inside e) (differs e);
-      known_after = new_known _ _ _ _ _ known _ way _ limit (place_inside e) (differs e) _ _ c.body_at-body.ensures c.ask.ensures;
+      group = new_group _ _ _ _ _ known _ way _ limit inside differs;
+      known_after = new_known _ _ _ _ _ known _ way _ limit inside differs _ _ c.body_at-body.ensures c.ask.ensures;
     }
