@@ -10,7 +10,7 @@ mkdir -p "$built"
 build_proved() (
     program=$1
     cd "$root"
-    rt check "$program" >/dev/null
+    make_program "$program" >/dev/null
     if [ "$machine" = x86_64 ]; then
         cp "target/bin/$program" "$built"
         exit

@@ -43,6 +43,16 @@ need_shared() {
     fi
 }
 
+# make_program NAME: proves a program and compiles it: $root/target/bin/NAME. The toolchain compiles a program where it runs it, so it is
+# run here, on nothing.
+make_program() (
+    cd "$root/crates/$1"
+    rt check </dev/null || exit
+    rt run </dev/null >/dev/null 2>&1 || true
+    mkdir -p "$root/target/bin"
+    cp "out/$1" "$root/target/bin/$1.new" && mv "$root/target/bin/$1.new" "$root/target/bin/$1"
+)
+
 # version: that of the header, MAJOR.MINOR.PATCH.
 version() {
     sed -n 's/^#define TK_VERSION_\(MAJOR\|MINOR\|PATCH\) //p' "$root/include/tulonkasa.h" | paste -sd .
