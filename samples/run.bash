@@ -35,7 +35,7 @@ prove() {
         echo "$me: the $1 is proved first, which takes $2 on two cores; later runs take a second." >&2
     } &
     notice=$!
-    if ! (cd "$root" && rt check "$1") >"$said" 2>&1 </dev/null; then
+    if ! build_program "$1" >"$said" 2>&1; then
         cat "$said" >&2
         stop 1 "the $1 is not proved, and so is not run."
     fi
@@ -54,7 +54,7 @@ run_proved() {
     prove "$program" "$time"
     if [ "$input" = - ]; then input=/dev/stdin; fi
     set +e
-    run_x86_64 "$root/target/bin/$program" "$@" <"$input" 2>"$said" |
+    "$root/target/bin/$program" "$@" <"$input" 2>"$said" |
         awk -v torn="$torn" '{ print; last = $0 } END { if (last == torn) exit 3 }'
     ended=("${PIPESTATUS[@]}")
     set -e
