@@ -7,7 +7,7 @@ mkdir -p "$built"
 
 # build_proved PROGRAM: makes $built/PROGRAM, the proved program.
 build_proved() {
-    build_program "$1"
+    make_program "$1"
     cp "$root/target/bin/$1" "$built"
 }
 

@@ -41,6 +41,19 @@ need_shared() {
     fi
 }
 
+# make_program NAME: proves a program of crates/ and compiles it: $root/target/bin/NAME. The toolchain compiles a program only to run it, so
+# it is run here, on nothing. Where it is not proved, what the toolchain says is shown.
+make_program() {
+    local folder=$root/crates/$1 to=$root/target/bin/$1 said
+    said=$(cd "$folder" && rt run </dev/null 2>&1) || true
+    if ! grep -q "^rt: running out/$1;" <<<"$said"; then
+        printf '%s\n' "$said" >&2
+        return 1
+    fi
+    mkdir -p "$root/target/bin"
+    cp "$folder/out/$1" "$to.new" && mv "$to.new" "$to"
+}
+
 # version: that of the header, MAJOR.MINOR.PATCH.
 version() {
     sed -n 's/^#define TK_VERSION_\(MAJOR\|MINOR\|PATCH\) //p' "$root/include/tulonkasa.h" | paste -sd .
@@ -65,17 +78,4 @@ need_original() {
         echo "$TULONKASA_ORACLE_SOURCE is missing: name the original's source by TULONKASA_ORACLE_SOURCE." >&2
         exit 2
     fi
-}
-
-# build_program PROGRAM: proves a program of crates/ and makes target/bin/PROGRAM. The toolchain makes a program only to run it, so it is
-# run once, without input: that it runs says that it was proved and made. Else what the toolchain says is shown.
-build_program() {
-    local folder=$root/crates/$1 said
-    said=$(cd "$folder" && rt run </dev/null 2>&1) || true
-    if ! grep -q "^rt: running out/$1;" <<<"$said"; then
-        printf '%s\n' "$said" >&2
-        return 1
-    fi
-    mkdir -p "$root/target/bin"
-    cp -f "$folder/out/$1" "$root/target/bin/$1"
 }

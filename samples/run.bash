@@ -35,7 +35,7 @@ prove() {
         echo "$me: the $1 is proved first, which takes $2 on two cores; later runs take a second." >&2
     } &
     notice=$!
-    if ! build_program "$1" >"$said" 2>&1; then
+    if ! make_program "$1" >"$said" 2>&1; then
         cat "$said" >&2
         stop 1 "the $1 is not proved, and so is not run."
     fi

@@ -69,4 +69,5 @@ rows_count looked t mode lane bank width rows =
 pub reads_count : (looked : Bool) (t : Tile) (mode lane : ℕ) (bank : List ℕ)
     → length (trail (reading_by looked t mode lane) bank) ≡ reads_each t mode * texels_by looked t
 reads_count looked t mode lane bank =
-    rw (← reading_by_lem looked t mode lane, ← texels_by_lem looked t) (rows_count looked t mode lane bank (width_by looked t) (rows_by looked t))
+    rw (← reading_by_lem looked t mode lane, ← texels_by_lem looked t)
+    (rows_count looked t mode lane bank (width_by looked t) (rows_by looked t))

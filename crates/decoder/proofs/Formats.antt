@@ -1,16 +1,16 @@
 -- The rule's list of formats, by place, and by the reads of its formats.
-use mathlib.Core.Path.{◌≡◌, refl, ap, sym, ◌∙◌}
-use mathlib.Core.Bool.{Bool, true, false, not, cond, ◌||◌, true≢false}
+use mathlib.Core.Path.{◌≡◌, refl}
+use mathlib.Core.Bool.{Bool, true, false, not, cond, ◌||◌}
 use mathlib.Core.List.{List, [], ◌∷◌}
 use Prim.Native.Nat.{ℕ, ◌+◌, ◌*◌, ◌%◌, ◌<◌, ◌≤◌}
 use native.Mathlib.Omega.{arith}
 use native.Mathlib.Decide.{dec_lt, ℕ_discrete}
-use lib.Dec.{T, eqb, ltb, eqb→eq}
+use lib.Dec.{T, eqb, ltb}
 use lib.ListN.{get_or-eq_default}
 use borrow.Author.Tests.{le-leb, lt-leb, le-ltb, ne_eqb, eq-eqb}
 use Rattle.rules.specs.Base.{mem}
 use Rattle.rules.specs.Tile.{Tile, InRange}
-use Rattle.rules.specs.Texdec.{Format, rgba16, rgba32, ci4, ci8, ci16, ia4, ia8, ia16, i4, i8, unknown, formats, format_of, known}
+use Rattle.rules.specs.Texdec.{Format, rgba16, rgba32, ci4, ci8, ci16, ia4, ia8, ia16, i4, i8, unknown, formats, format_of}
 use Rattle.rules.specs.Picture.{direct, format_reads}
 use Rattle.rules.proofs.Computed.{all, computed}
 use Rattle.decoder.specs.Steps.{format_at, kind_of}
@@ -31,29 +31,6 @@ outside l p t u n e = go (dec_lt n 18)
 
 abbrev pub Not : ℕ → ℕ → Type 0
 Not n k = n ≡ k → ⊥
-
--- at a place that is none of those listed no known format stands
-pub unlisted : (n : ℕ)
-    → ((((((((((Unit {0} × Not n 2) × Not n 3) × Not n 8) × Not n 9) × Not n 10) × Not n 11)
-    × Not n 12) × Not n 13) × Not n 14) × Not n 16) × Not n 17
-    → format_reads (format_at n) ≡ 0
-unfolding mem
-unlisted n r =
-    eqb→eq (format_reads (format_at n)) 0
-    (outside (2 ∷ 3 ∷ 8 ∷ 9 ∷ 10 ∷ 11 ∷ 12 ∷ 13 ∷ 14 ∷ 16 ∷ 17 ∷ []) (λ f. eqb (format_reads f) 0) tt tt n
-    (simp (
-      ne_eqb n 2 r.0.0.0.0.0.0.0.0.0.0.1,
-      ne_eqb n 3 r.0.0.0.0.0.0.0.0.0.1,
-      ne_eqb n 8 r.0.0.0.0.0.0.0.0.1,
-      ne_eqb n 9 r.0.0.0.0.0.0.0.1,
-      ne_eqb n 10 r.0.0.0.0.0.0.1,
-      ne_eqb n 11 r.0.0.0.0.0.1,
-      ne_eqb n 12 r.0.0.0.0.1,
-      ne_eqb n 13 r.0.0.0.1,
-      ne_eqb n 14 r.0.0.1,
-      ne_eqb n 16 r.0.1,
-      ne_eqb n 17 r.1,
-    )))
 
 -- the places of the formats of so many reads are those of a list
 elsewhere : (reads : ℕ) (l : List ℕ) → T (all 18 (λ k. mem k l || not (eqb (format_reads (format_at k)) reads))) → T (not (eqb 0 reads))
@@ -119,14 +96,6 @@ no_reads ia16 a b c = absurd (b refl)
 no_reads i4 a b c = absurd (a refl)
 no_reads i8 a b c = absurd (a refl)
 no_reads unknown a b c = refl
-
--- a known format that has neither one nor two reads has four
-pub four-left : (f : Format) → known f ≡ true → Not (format_reads f) 1 → Not (format_reads f) 2 → format_reads f ≡ 4
-four-left f k a b = go (ℕ_discrete (format_reads f) 4)
-  where
-    go : Dec (format_reads f ≡ 4) → format_reads f ≡ 4
-    go (yes p) = p
-    go (no p) = absurd (true≢false (sym k ∙ ap known (no_reads f a b p)))
 
 -- one of size 0 has no more than one
 pub wide_place : (n : ℕ) → 2 ≤ format_reads (format_at n) → eqb (n % 4) 0 ≡ false

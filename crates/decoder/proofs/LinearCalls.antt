@@ -1,6 +1,6 @@
 -- What holds of inputs of the linear decoding that are not refused, and what the call then answers and leaves.
-use mathlib.Core.Path.{◌≡◌, refl, ap, sym, ◌∙◌}
-use mathlib.Core.Bool.{Bool, true, false, ◌&&◌, ◌||◌, true≢false}
+use mathlib.Core.Path.{◌≡◌, refl}
+use mathlib.Core.Bool.{true, false, ◌||◌}
 use mathlib.Core.List.{List, [], ◌∷◌}
 use Prim.Native.Nat.{ℕ, ◌+◌, ◌*◌, ◌≤◌}
 use native.Mathlib.Nat.{mul_assoc}
@@ -9,9 +9,9 @@ use lib.Dec.{ltb}
 use lib.ListN.{length}
 use borrow.Author.Tests.{ltb-false, not-false}
 use Rattle.rules.specs.Base.{over}
-use Rattle.rules.specs.Reading.{given, trail}
+use Rattle.rules.specs.Reading.{given}
 use Rattle.rules.specs.Tile.{Tile, side_limit, sides_outside, linear_fields_outside}
-use Rattle.rules.specs.Texdec.{known, format_of, accepted}
+use Rattle.rules.specs.Texdec.{known, accepted}
 use Rattle.rules.specs.Linear.{linear, linear_row}
 use Rattle.rules.specs.Picture.{format_reads}
 use Rattle.rules.specs.Refusal.{first}

@@ -6,7 +6,7 @@ use Prim.Native.Nat.{ℕ, ◌*◌}
 use native.Mathlib.Nat.{le_refl}
 use native.Mathlib.Omega.{arith}
 use lib.ListN.{length, take, length-take}
-use Rattle.rules.specs.Reading.{given, trail, up_to}
+use Rattle.rules.specs.Reading.{Reading, given, trail, up_to}
 use Rattle.rules.specs.Tile.{Tile}
 use Rattle.rules.specs.Texdec.{step_knows}
 use Rattle.rules.specs.Picture.{texel, reads_each}
@@ -15,7 +15,7 @@ use Rattle.decoder.specs.declared.place.Row.{Row}
 use Rattle.decoder.specs.declared.plan.Plan.{Plan}
 use Rattle.decoder.specs.declared.texel.Texel.{Texel}
 use Rattle.decoder.specs.Steps.{Decodes}
-use Rattle.decoder.specs.Rows.{four, rel_in, x_in, row_texel, row_of, one_texel, one_row, told, trail_step}
+use Rattle.decoder.specs.Rows.{four, rel_in, x_in, row_at, row_texel, row_of, one_texel, one_row, told, trail_step}
 use Rattle.rules.proofs.Parts.{Parts, length_whole, given_parts}
 use Rattle.decoder.proofs.Told.{told_parts, told-length}
 use Rattle.rules.proofs.Formats.{texel-four}
@@ -54,6 +54,10 @@ module _ (p : Plan) (bank : List ℕ) (r : Row) (n : ℕ) where
   row_told e =
       told_parts p.observe (one_texel p r) bank n p.step
       (λ i. told-length p.observe _ _ (row_reads _ _ p.lane r i bank) ∙ sym e)
+
+-- row y of a plan
+abbrev pub row_by : Plan → ℕ → Reading
+row_by p y = one_row p (row_at p.lookup (tile_of p.tile) p.tlut_fmt y)
 
 -- And its rows one after the other.
 module _ (p : Plan) (bank : List ℕ) (row : ℕ → Row) (n : ℕ) where

@@ -25,7 +25,8 @@ module _ (observe looked : Bool) (bank : List ℕ) (t : Tile) (mode lane : ℕ) 
   unfolding late
   whole = go observe
     where
-      go : (b : Bool) → tests_by b looked bank t mode lane out seen ≡ early_tests bank t mode lane ++ late b looked bank t mode lane out seen
+      go : (b : Bool)
+          → tests_by b looked bank t mode lane out seen ≡ early_tests bank t mode lane ++ late b looked bank t mode lane out seen
       go true = refl
       go false = refl
 

@@ -79,7 +79,8 @@ module _ (t : Tile) where
       go true = omega arith
       go false = omega arith
 
-  pub entries-all : (mode lane : ℕ) (bank table : List ℕ) → length table ≡ 256 → Filled mode lane bank (first_entry t) table (entry_count t)
+  pub entries-all : (mode lane : ℕ) (bank table : List ℕ) → length table ≡ 256
+      → Filled mode lane bank (first_entry t) table (entry_count t)
       → EntryTable t mode lane bank table
   entries-all mode lane bank table n f =
       record { size = n; at = λ x v h. let y = cond (eqb t.fmt 1) 0 x in go (nibble y v) v (nibble_small y v h) h (eqb t.siz 0) f }

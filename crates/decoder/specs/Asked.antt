@@ -45,7 +45,8 @@ early_tests bank t mode lane = (1 if not_bytes bank_size bank) ∷ pair_tests t 
 
 -- the call's tests
 abbrev pub tests_by : Bool → Bool → List ℕ → Tile → ℕ → ℕ → List ℕ → List ℕ → List Test
-tests_by true looked bank t mode lane out seen = observed_tests bank t mode lane (texels_by looked t) (reading_by looked t mode lane) out seen
+tests_by true looked bank t mode lane out seen =
+    observed_tests bank t mode lane (texels_by looked t) (reading_by looked t mode lane) out seen
 tests_by false looked bank t mode lane out seen = picture_tests bank t mode lane (texels_by looked t) out
 
 -- a picture whose trail is not asked for: what was lent for it stays as it was
@@ -58,5 +59,7 @@ untold_call r count bank t mode lane out seen =
 
 -- the call's outcome, with picture and trail as it leaves them
 abbrev pub outcome_by : Bool → Bool → List ℕ → Tile → ℕ → ℕ → List ℕ → List ℕ → Outcome
-outcome_by true looked bank t mode lane out seen = observed_call (reading_by looked t mode lane) (texels_by looked t) bank t mode lane out seen
-outcome_by false looked bank t mode lane out seen = untold_call (reading_by looked t mode lane) (texels_by looked t) bank t mode lane out seen
+outcome_by true looked bank t mode lane out seen =
+    observed_call (reading_by looked t mode lane) (texels_by looked t) bank t mode lane out seen
+outcome_by false looked bank t mode lane out seen =
+    untold_call (reading_by looked t mode lane) (texels_by looked t) bank t mode lane out seen

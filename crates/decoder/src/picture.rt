@@ -1,6 +1,7 @@
 // The pictures of a tile: the plain one and the lookup, each alone or with the trail of its reads.
 ghost use Rattle.std.specs.Prelude.{◌≡◌, [], ◌∷◌};
-ghost use Rattle.rules.specs.Calls.{picture_call, sample_tile_call, sample_tile_observed_call, sampling_lookup_call, sampling_lookup_observed_call};
+ghost use Rattle.rules.specs.Calls.{picture_call, sample_tile_call, sample_tile_observed_call};
+ghost use Rattle.rules.specs.Calls.{sampling_lookup_call, sampling_lookup_observed_call};
 ghost use Rattle.rdp.specs.View.{tile_of, answered};
 ghost use Rattle.decoder.specs.Asked.{reading_by, texels_by};
 

@@ -136,8 +136,8 @@ module _ (t : Tile) (lane : ℕ) (b : List ℕ) (a : ℕ) where
       (to_word : (at : ℕ) → HitPlace t lane b a step at → mem a (trail (word at) []) ≡ true) (R : Reading)
       (to : mem a (trail R b) ≡ true → HitWord t lane b a step first n)
       (from : HitWord t lane b a step first n → mem a (trail R b) ≡ true) where
-    index_words : mem a (trail (up_to n (λ w. word ((first + w) % 256))) []) ≡ mem a (trail R b)
-    index_words = same_yes _ _ there back
+    same_words : mem a (trail (up_to n (λ w. word ((first + w) % 256))) []) ≡ mem a (trail R b)
+    same_words = same_yes _ _ there back
       where
         there : mem a (trail (up_to n (λ w. word ((first + w) % 256))) []) ≡ true → mem a (trail R b) ≡ true
         there h =
@@ -179,7 +179,8 @@ module _ (t : Tile) (mode lane : ℕ) (b : List ℕ) (a : ℕ) (by_table : 2 ≤
       (mem_cases a _ _ m))
       (mem_cases a _ _ (rw (reads_of swap rel x) at m))
 
-  hits_reading : (R : Reading) (A : ℕ) → ((p : ℕ) → p < 2 → Reader t mode lane b a R A p) → IndexHit t lane b a A → mem a (trail R b) ≡ true
+  hits_reading : (R : Reading) (A : ℕ) → ((p : ℕ) → p < 2 → Reader t mode lane b a R A p) → IndexHit t lane b a A
+      → mem a (trail R b) ≡ true
   hits_reading R A reader h =
       ⊎_elim
       (λ e. let r = reader 0 (omega arith) in r.among (rw (reads_of r.swap r.rel r.x, r.there, ← e) (mem_head a _)))
@@ -197,7 +198,7 @@ module _ (t : Tile) (mode lane : ℕ) (b : List ℕ) (a : ℕ) (by_table : 2 ≤
   lookup_words : mem a (trail (index_words t lane b 0 256) []) ≡ mem a (trail (lookup t mode lane) b)
   unfolding lookup lookup_row index_words
   lookup_words =
-      index_words t lane b a 1 0 256 (index_word t lane b) (index_to t lane b a) (to_index t lane b a) (lookup t mode lane) to from
+      same_words t lane b a 1 0 256 (index_word t lane b) (index_to t lane b a) (to_index t lane b a) (lookup t mode lane) to from
     where
       to : mem a (trail (lookup t mode lane) b) ≡ true → HitWord t lane b a 1 0 256
       to h =
@@ -244,7 +245,7 @@ module _ (t : Tile) (mode lane : ℕ) (b : List ℕ) (a : ℕ) (by_table : 2 ≤
     index_row : mem a (trail (up_to n (λ w. word ((t.tmem_addr + s + w) % 256))) [])
         ≡ mem a (trail (up_to (T * n) (row_texel t mode lane o s)) b)
     index_row =
-        index_words t lane b a step (t.tmem_addr + s) n word word_to to_word (up_to (T * n) (row_texel t mode lane o s)) to from
+        same_words t lane b a step (t.tmem_addr + s) n word word_to to_word (up_to (T * n) (row_texel t mode lane o s)) to from
       where
         to : mem a (trail (up_to (T * n) (row_texel t mode lane o s)) b) ≡ true → HitWord t lane b a step (t.tmem_addr + s) n
         to h =

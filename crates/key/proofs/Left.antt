@@ -51,7 +51,8 @@ pub record Past (t : Tile) (mode lane : ℕ) (bank : List ℕ) (a : ℕ) : Type 
   pub not_zero : get_or bank a 0 ≡ 0 → ⊥
 
 module _ (t : Tile) (mode lane : ℕ) (bank : List ℕ) (n : length bank ≡ bank_size) where
-  whole_byte : (a : ℕ) → get_or (key_of (picture t mode lane) bank) a 0 ≡ cond (mem a (trail (picture t mode lane) bank)) (get_or bank a 0) 0
+  whole_byte : (a : ℕ) → get_or (key_of (picture t mode lane) bank) a 0
+      ≡ cond (mem a (trail (picture t mode lane) bank)) (get_or bank a 0) 0
   whole_byte a = key-byte (picture t mode lane) bank a n
 
   right_byte : (a : ℕ) → get_or (key t mode lane bank) a 0 ≡ cond (mem a (trail (visible_picture t mode lane) bank)) (get_or bank a 0) 0

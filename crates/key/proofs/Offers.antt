@@ -2,12 +2,12 @@
 use mathlib.Core.Path.{◌≡◌, refl, ap, sym, ◌∙◌}
 use mathlib.Core.Bool.{Bool, true, false, not}
 use mathlib.Core.List.{List}
-use Prim.Native.Nat.{ℕ, ◌+◌, ◌<◌, ◌≤◌}
+use Prim.Native.Nat.{ℕ, ◌<◌, ◌≤◌}
 use lib.Dec.{eqb}
 use lib.ListN.{get_or}
 use borrow.Author.Tests.{eq-eqb}
 use native.Mathlib.Omega.{arith}
-use native.Mathlib.Decide.{ℕ_discrete, dec_lt}
+use native.Mathlib.Decide.{ℕ_discrete}
 use Rattle.rules.specs.Base.{one, mem}
 use Rattle.rules.specs.Tile.{Tile, bank_size}
 use Rattle.rules.specs.Reading.{trail}
@@ -23,36 +23,6 @@ use Rattle.key.proofs.Cuts.{kept_by_lem}
 -- f holds of none from i on and below a
 abbrev pub NoneBelow : (ℕ → Bool) → ℕ → ℕ → Type 0
 NoneBelow f i a = (k : ℕ) → i ≤ k → k < a → f k ≡ false
-
-pub none_yet : (f : ℕ → Bool) (i : ℕ) → NoneBelow f i i
-none_yet f i k p q = absurd (omega arith)
-
-pub none_more : (f : ℕ → Bool) (i a : ℕ) → NoneBelow f i a → f a ≡ false → NoneBelow f i (a + 1)
-none_more f i a n e k p q = go (ℕ_discrete k a)
-  where
-    go : Dec (k ≡ a) → f k ≡ false
-    go (yes h) = ap f h ∙ e
-    go (no h) = n k p (omega arith)
-
--- the search ends at the first, or past the last
-pub found_at : {f : ℕ → Bool} {i a : ℕ} (n : ℕ) → NoneBelow f i a → i ≤ a → a < i + n → f a ≡ true → Lowest i n f a
-found_at n b p q e = record { below = b; from = p; to = omega arith; holds = λ h. e }
-
-pub found_none : {f : ℕ → Bool} {i : ℕ} (n : ℕ) → NoneBelow f i (i + n) → Lowest i n f (i + n)
-found_none n b = record { below = b; from = omega arith; to = omega arith; holds = λ h. absurd (omega arith) }
-
--- the lowest of some after others of which f holds of none
-pub join_below : {f : ℕ → Bool} {i n a : ℕ} → NoneBelow f 0 i → Lowest i n f a → NoneBelow f 0 a
-join_below {f} {i} {n} {a} b l k p q = go (dec_lt k i)
-  where
-    go : Dec (k < i) → f k ≡ false
-    go (yes h) = b k p h
-    go (no h) = l.below k (omega arith) q
-
-pub found_after : {f : ℕ → Bool} {i n a : ℕ} (m : ℕ) → NoneBelow f 0 i → Lowest i n f a → (a ≡ i + n → ⊥) → i + n ≤ m → Lowest 0 m f a
-found_after {i = i} {n = n} {a = a} m b l e h =
-    let p : a < i + n = omega (arith, l.to) in
-    found_at m (join_below b l) (omega arith) (omega arith) (l.holds p)
 
 -- By the notes of what the visible picture reads, the search is for the lowest address at which the offer is not the key.
 module _ (t : Tile) (mode lane : ℕ) (bank notes offer : List ℕ) (lent : Lent bank notes offer)

@@ -1,6 +1,6 @@
 -- The whole words of a row of direct texels: what they read is what the row's texels read, in another order.
 use mathlib.Core.Path.{◌≡◌, refl, ap, sym, ◌∙◌}
-use mathlib.Core.Bool.{Bool, true, false, cond, ◌||◌, or-true, and_false}
+use mathlib.Core.Bool.{Bool, true, false, cond, ◌||◌, or-true, and-false}
 use mathlib.Core.List.{List, []}
 use mathlib.Core.Logic.{◌⊎◌, inl, inr, ⊎_elim}
 use Prim.Native.Nat.{ℕ, ◌+◌, ◌*◌, ◌/◌, ◌%◌, ◌<◌}
@@ -250,7 +250,7 @@ module _ (t : Tile) (mode lane : ℕ) (o : Bool) (s n : ℕ) (b : List ℕ) (a :
       ∙ direct-trail t.fmt t.siz (8 * t.tmem_addr) t.palette o (8 * s + column t mode x) x b pair
 
   column_of : (x : ℕ) → column t mode x ≡ cond (eqb t.siz 0) (x / 2) (cond (eqb t.siz 1) x (2 * x))
-  column_of x = rw (lt-leb 2 mode direct_mode, and_false (eqb t.fmt 1))
+  column_of x = rw (lt-leb 2 mode direct_mode, and-false (eqb t.fmt 1))
 
   one_byte : (T : ℕ) (pick : ℕ → ℕ) → pair_reads t.fmt t.siz ≡ 1 → is_rgba32 t.fmt t.siz ≡ false → word_texels t.siz ≡ T
       → ((x : ℕ) → x < T * n → column t mode x < 8 * n)
@@ -299,11 +299,11 @@ module _ (t : Tile) (mode lane : ℕ) (o : Bool) (s n : ℕ) (b : List ℕ) (a :
     where
       go : Dec (t.siz ≡ 0) → Dec (t.siz ≡ 1) → SameRow
       go (yes z) d =
-          let none : is_rgba32 t.fmt t.siz ≡ false = rw z (and_false (eqb t.fmt 0)) in
+          let none : is_rgba32 t.fmt t.siz ≡ false = rw z (and-false (eqb t.fmt 0)) in
           one_byte 16 (λ c. 2 * c) (rw (none, z)) none (rw z)
           (λ x l. rw (column_of x, z) (omega arith)) (λ c l. (omega arith, rw (column_of (2 * c), z) (omega arith)))
       go (no z) (yes d) =
-          let none : is_rgba32 t.fmt t.siz ≡ false = rw d (and_false (eqb t.fmt 0)) in
+          let none : is_rgba32 t.fmt t.siz ≡ false = rw d (and-false (eqb t.fmt 0)) in
           one_byte 8 (λ c. c) (rw (none, d)) none (rw d)
           (λ x l. rw (column_of x, d) l) (λ c l. (l, rw (column_of c, d)))
       go (no z) (no d) =

@@ -13,8 +13,8 @@ use Rattle.rules.specs.Tile.{side_limit}
 use Rattle.rules.specs.Refusal.{first}
 use Rattle.rules.specs.Lister.{decimal}
 use Rattle.rules.specs.Pam.{text, lines, ended, pam_header, texel_bytes, pam_file, pam_write_tests, front, behind, cut, value, is_end}
-use Rattle.rules.specs.Pam.{unknown_line, fields, lines_size, values, digit, number_from, number, is_count, joined, Header, header_of, pam_head}
-use Rattle.rules.specs.Pam.{pam_read_tests, pam_read_call}
+use Rattle.rules.specs.Pam.{unknown_line, fields, lines_size, values, digit, number_from, number, is_count, joined}
+use Rattle.rules.specs.Pam.{Header, header_of, pam_head, pam_read_tests, pam_read_call}
 use Rattle.rules.proofs.Refused.{done_is}
 use Rattle.pam.proofs.Lines.{plain, lines-ended}
 use Rattle.pam.proofs.Numerals.{Numeral, numeral, numeral_counts, digits_plain, digits_trimmed, digits_cut}

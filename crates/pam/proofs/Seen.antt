@@ -99,7 +99,10 @@ read_is at s [] = refl
 read_is at s (l ∷ ls) = go (is_end l) (read_is (at + length l + 1) (note_step s l) ls)
   where
     go : (t : Bool) → read_from (at + length l + 1) (note_step s l) ls
-        ≡ record { stated = folded note_step (note_step s l) (fields ls); size = cond (any is_end ls) (at + length l + 1 + lines_size ls) 0 }
+        ≡ record {
+          stated = folded note_step (note_step s l) (fields ls);
+          size = cond (any is_end ls) (at + length l + 1 + lines_size ls) 0;
+        }
         → ◌≡◌ {A = Header}
         (elim t [ true ↦ record { stated = s; size = at + length l + 1 } | false ↦ read_from (at + length l + 1) (note_step s l) ls ])
         (record {

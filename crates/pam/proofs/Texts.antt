@@ -2,13 +2,12 @@
 use mathlib.Core.Path.{◌≡◌, refl, ap, ◌∙◌}
 use mathlib.Core.Bool.{Bool, true, false, ◌&&◌}
 use mathlib.Core.List.{List, [], ◌∷◌, ◌++◌}
-use Prim.Native.Nat.{ℕ, zero, suc, ◌+◌, ◌-◌, ◌<◌, ◌≤◌}
+use Prim.Native.Nat.{ℕ, zero, suc, ◌+◌, ◌<◌, ◌≤◌}
 use native.Mathlib.Omega.{arith}
 use native.Mathlib.Numerals.{add-one}
-use native.Mathlib.Nat.{le_of_eq}
 use lib.Dec.{eqb}
-use lib.ListN.{length, get_or, take, drop, length-take, length-drop, drop_of_length-le}
-use lib.Seq.{drop-cons, take_all}
+use lib.ListN.{length, get_or, take, drop, length-take, drop_of_length-le}
+use lib.Seq.{drop-cons}
 use borrow.Author.Tests.{eq-eqb, ne_eqb}
 use Rattle.rules.specs.Base.{all, empty, same}
 use Rattle.rules.proofs.Ranges.{both}
@@ -16,10 +15,6 @@ use Rattle.rules.proofs.Ranges.{both}
 pub and_false : (t : Bool) → (t && false) ≡ false
 and_false true = refl
 and_false false = refl
-
--- the part that starts at n
-pub rest_from : (s : List ℕ) (n : ℕ) → take (length s - n) (drop n s) ≡ drop n s
-rest_from s n = take_all (length s - n) (drop n s) (le_of_eq (length-drop n s))
 
 pub snoc_some : (l : List ℕ) (b : ℕ) → empty (l ++ (b ∷ [])) ≡ false
 snoc_some [] b = refl

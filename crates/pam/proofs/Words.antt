@@ -5,10 +5,9 @@ use mathlib.Core.List.{List, [], ◌∷◌, ◌++◌}
 use Prim.Native.Nat.{ℕ, zero, suc, ◌+◌, ◌-◌, ◌<◌, ◌≤◌}
 use native.Mathlib.Omega.{arith}
 use native.Mathlib.Numerals.{add-one}
-use lib.Dec.{eqb}
 use lib.ListN.{length, get_or, take, drop, drop_of_length-le}
 use lib.Seq.{take-suc, drop-cons, append_snoc}
-use Rattle.rules.specs.Pam.{white, front, behind, before, cut, comment}
+use Rattle.rules.specs.Pam.{white, front, behind, before, cut}
 use Rattle.pam.proofs.Texts.{and_false, snoc_some}
 
 -- The front of a text, by a test of its bytes, from place i on.
@@ -68,12 +67,3 @@ pub cut_none : (s : List ℕ) (i : ℕ) → i ≤ 0 → cut (take i s) ≡ take 
 unfolding cut
 cut_none s zero h = refl
 cut_none s (suc i) h = absurd (omega arith)
-
--- a line without bytes, and one by its first byte
-pub comment_none : (l : List ℕ) → length l ≡ 0 → comment l ≡ false
-comment_none [] h = refl
-comment_none (b ∷ l) h = absurd (omega arith)
-
-pub comment-first : (l : List ℕ) → (length l ≡ 0 → ⊥) → comment l ≡ eqb (get_or l 0 0) 35
-comment-first [] h = absurd (h refl)
-comment-first (b ∷ l) h = refl

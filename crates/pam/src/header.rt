@@ -105,9 +105,9 @@ fn no_lines() -> Stated
 // Where the line from `at` on ends: the place of its newline, or the file's length where there is none.
 fn line_end(file: &[u8], at: usize) -> usize
     requires { at ≤ length file.now }
-    ensures lower_bound { at ≤ result }
-    ensures upper_bound { result ≤ length file.now }
-    ensures file_value { lines (drop at file.now)
+    ensures not_before { at ≤ result }
+    ensures within { result ≤ length file.now }
+    ensures one_line { lines (drop at file.now)
         ≡ cond (eqb result (length file.now)) []
         (take (result - at) (drop at file.now) ∷ lines (drop (result + 1) file.now)) }
 {
@@ -125,7 +125,7 @@ fn line_end(file: &[u8], at: usize) -> usize
 fn read_lines(file: &[u8], start: usize) -> Header
     requires { start ≤ length file.now }
     ensures value { result ≡ read_from start no_lines (lines (drop start file.now)) }
-    ensures size_in_bounds { result.size ≤ length file.now }
+    ensures within { result.size ≤ length file.now }
 {
     let mut stated = no_lines();
     let mut at = start;
@@ -156,7 +156,7 @@ fn has_magic(file: &[u8]) -> bool
 
 pub(crate) fn read_header(file: &[u8]) -> Header
     ensures value { result ≡ header_by file.now }
-    ensures size_in_bounds { result.size ≤ length file.now }
+    ensures within { result.size ≤ length file.now }
 {
     if !has_magic(file) {
         return Header {

@@ -10,12 +10,12 @@ use rdp::answer::SizeAnswer;
 
 // The `count` bytes of the file from `start` on, over the picture's front.
 fn copy_texels(file: &[u8], start: usize, count: usize, picture: &mut [u8])
-    requires count_in_bounds { start + count ≤ length file.now }
-    requires count_in_bounds_2 { count ≤ length picture.old }
+    requires in_file { start + count ≤ length file.now }
+    requires in_picture { count ≤ length picture.old }
     ensures { picture.new ≡ over (take count (drop start file.now)) picture.old }
 {
     let end = start + count;
-    bytes::copy(&file[start..end], picture);
+    picture[..count].copy_from_slice(&file[start..end]);
 }
 
 // The picture in a file: its texels at the front of `picture`, and its size. Bytes after the texels are not read.

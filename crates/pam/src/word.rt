@@ -19,9 +19,9 @@ fn is_of_kind(b: u8, white: bool) -> bool
 
 // How many bytes of white space a text begins with, or how many others.
 pub(crate) fn front_length(s: &[u8], white: bool) -> usize
-    ensures upper_bound { result ≤ length s.now }
-    ensures s_value { take result s.now ≡ front (kind_of white) s.now }
-    ensures s_value_2 { drop result s.now ≡ behind (kind_of white) s.now }
+    ensures within { result ≤ length s.now }
+    ensures taken { take result s.now ≡ front (kind_of white) s.now }
+    ensures left { drop result s.now ≡ behind (kind_of white) s.now }
 {
     let mut i = 0;
     while i < s.len() {
@@ -35,8 +35,8 @@ pub(crate) fn front_length(s: &[u8], white: bool) -> usize
 
 // How many bytes are left without the white space at the end.
 pub(crate) fn cut_length(s: &[u8]) -> usize
-    ensures upper_bound { result ≤ length s.now }
-    ensures s_value { take result s.now ≡ cut s.now }
+    ensures within { result ≤ length s.now }
+    ensures taken { take result s.now ≡ cut s.now }
 {
     let mut i = s.len();
     while 0 < i {

@@ -18,14 +18,16 @@ fn put_part(part: &[u8], out: &mut [u8], at: usize) -> usize
     ensures value { result ≡ at + length part.now }
     ensures out_after { out.new ≡ over (take at out.old ++ part.now) out.old }
 {
-    at + bytes::copy(part, &mut out[at..])
+    let end = at + part.len();
+    out[at..end].copy_from_slice(part);
+    end
 }
 
 // The header of a picture at the front of `out`, and its length.
 fn put_header(width: u32, height: u32, out: &mut [u8]) -> usize
     requires { header_most ≤ length out.old }
     ensures value { result ≡ length (pam_header width height) }
-    ensures upper_bound { result ≤ header_most }
+    ensures short { result ≤ header_most }
     ensures out_after { out.new ≡ over (pam_header width height) out.old }
 {
     let at = put_part(b"P7\nWIDTH ", out, 0);
@@ -41,8 +43,8 @@ fn put_header(width: u32, height: u32, out: &mut [u8]) -> usize
 
 // The header, and the `count` bytes of the texels after it. The length of both is answered.
 fn put_file(header: &[u8], picture: &[u8], count: usize, file: &mut [u8]) -> usize
-    requires count_in_bounds { count ≤ length picture.now }
-    requires count_in_bounds_2 { length header.now + count ≤ length file.old }
+    requires in_picture { count ≤ length picture.now }
+    requires room { length header.now + count ≤ length file.old }
     ensures value { result ≡ length header.now + count }
     ensures file_after { file.new ≡ over (header.now ++ take count picture.now) file.old }
 {

@@ -66,8 +66,8 @@ module _ (m : List ℕ) where
   at_once s some r e h =
       rw (reached_words s)
       (first_found (reason_search m) (word_reached s) 0 (word_count s) (omega arith) (none_yet (reason_search m) _) r
-      (first_found (reason_search m) (place_reached s 0) 0 (places_of s 0) (places_some s 0 (omega arith)) (none_yet (reason_search m) _) r e
-      h)
+      (first_found (reason_search m) (place_reached s 0) 0 (places_of s 0) (places_some s 0 (omega arith)) (none_yet (reason_search m) _)
+      r e h)
       h)
 
   -- modes 0 and 1 have no palette

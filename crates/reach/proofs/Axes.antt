@@ -4,18 +4,10 @@ use Prim.Native.Nat.{ℕ, ◌+◌, ◌*◌, ◌/◌, ◌<◌, ◌≤◌, ◌^◌
 use native.Mathlib.Omega.{arith}
 use native.Mathlib.Nat.{div-le_self}
 use lib.Dec.{eqb}
-use lib.Pow.{pow_mono, pow_pos}
-use Rattle.rules.specs.Tile.{Tile, bank_size, side_limit}
+use lib.Pow.{pow_pos}
+use Rattle.rules.specs.Tile.{Tile, bank_size}
 use Rattle.rules.specs.Reach.{trailing_zeros, extent, row_bytes, row_period, reach_rows}
 use Rattle.rules.specs.Sampling.{repeats}
-
--- an axis reaches 2^15 at most
-pub extent-le : (cm mask size : ℕ) → mask ≤ 15 → size ≤ side_limit → extent cm mask size ≤ 32768
-extent-le cm mask size m s = go (repeats cm mask)
-  where
-    go : (b : Bool) → cond b (2 ^ mask) (max size 1) ≤ 32768
-    go true = pow_mono m
-    go false = omega arith
 
 -- a row reaches the bank's bytes at most, and the addresses repeat after 4,096 rows at most
 pub row_bytes-le : (t : Tile) → row_bytes t ≤ bank_size

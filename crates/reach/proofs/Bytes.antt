@@ -1,12 +1,13 @@
 -- Laws of one byte of a map: what several bits do at once, or where one of them is.
 use mathlib.Core.Path.{◌≡◌, refl, ap, ap₂, sym, ◌∙◌}
-use mathlib.Core.Bool.{Bool, true, false, cond, not, ◌&&◌, ◌||◌, or_false}
+use mathlib.Core.Bool.{Bool, true, false, cond, not, ◌&&◌, ◌||◌, or-false}
 use mathlib.Core.List.{List, [], ◌∷◌}
 use Prim.Native.Nat.{ℕ, zero, suc, ◌+◌, ◌-◌, ◌*◌, ◌/◌, ◌%◌, ◌^◌, ◌<◌, ◌≤◌}
 use native.Mathlib.Omega.{arith}
 use native.Mathlib.Decide.{ℕ_discrete, dec_lt}
 use native.Mathlib.Nat.{one-mul, zero-div, mod-eq_of_lt}
-use lib.Bits.{bit_and, bit_or, and_step, or_step, or_shr, and_shr, or_zero_r, and_zero_r, and_le_l, and_le_r, and_comm, and_mask, or_add_and}
+use lib.Bits.{bit_and, bit_or, and_step, or_step, or_shr, and_shr, or_zero_r, and_zero_r}
+use lib.Bits.{and_le_l, and_le_r, and_comm, and_mask, or_add_and}
 use lib.Dec.{eqb, ltb}
 use lib.ListN.{get_or}
 use lib.Pow.{shl_exact, shl-shr}
@@ -105,8 +106,8 @@ some_bit b s h (suc n) l =
     go (no e) = rw (added (b n), ne_eqb n s (λ q. e (sym q))) (there (b s) (b n) (dec_lt s n))
       where
         there : (c d : Bool) → Dec (s < n) → ((ltb s n && c) || (d && false)) ≡ (ltb s (suc n) && c)
-        there c true (yes q) = rw (lt-ltb s n q, lt-ltb s (suc n) (omega arith)) (or_false c)
-        there c false (yes q) = rw (lt-ltb s n q, lt-ltb s (suc n) (omega arith)) (or_false c)
+        there c true (yes q) = rw (lt-ltb s n q, lt-ltb s (suc n) (omega arith)) (or-false c)
+        there c false (yes q) = rw (lt-ltb s n q, lt-ltb s (suc n) (omega arith)) (or-false c)
         there c true (no q) = rw (le-ltb s n (omega (arith, q)), le-ltb s (suc n) (omega (arith, q, e)))
         there c false (no q) = rw (le-ltb s n (omega (arith, q)), le-ltb s (suc n) (omega (arith, q, e)))
 
@@ -130,7 +131,8 @@ zero_ors (suc n) f e = rw (zero_ors n f (λ k h. e k (omega arith)), e n (omega 
 zero_byte : (m : List ℕ) (from k : ℕ) → eight_bytes m from ≡ 0 → k < 8 → get_or m (from + k) 0 ≡ 0
 unfolding eight_bytes
 zero_byte m from k e h =
-    sym (shl-shr (get_or m (from + k) 0) (8 * k)) ∙ rw (ors_zero 8 (λ k. get_or m (from + k) 0 * 2 ^ (8 * k)) e k h) (zero-div (2 ^ (8 * k)))
+    let none = ors_zero 8 (λ k. get_or m (from + k) 0 * 2 ^ (8 * k)) e k h in
+    sym (shl-shr (get_or m (from + k) 0) (8 * k)) ∙ rw none (zero-div (2 ^ (8 * k)))
 
 -- where two numbers are zero in one, both are
 pub or_zero : (x y : ℕ) → bit_or x y ≡ 0 → (x ≡ 0) × (y ≡ 0)

@@ -2,6 +2,7 @@
 pub mod Within
 pub mod Joined
 pub mod Differ
+pub mod Pairs
 pub mod Bytes
 pub mod Words
 pub mod Axes
@@ -9,6 +10,5 @@ pub mod Spans
 pub mod Reached
 pub mod Asked
 pub mod Short
-pub mod Pairs
 pub mod Lanes
 pub mod One

@@ -7,9 +7,9 @@ use Rattle.rules.specs.Sampling.{flag}
 use Rattle.rules.specs.Reach.{reach_plain, reach_whole, reach}
 
 module _ (t : Tile) (mode : ℕ) where
-  pub reach_whole : flag t mode ≡ true → reach t mode ≡ reach_whole t mode
+  pub reach-whole : flag t mode ≡ true → reach t mode ≡ reach_whole t mode
   unfolding reach
-  reach_whole h = rw (h, reach)
+  reach-whole h = rw (h, reach)
 
   pub reach-plain : flag t mode ≡ false → reach t mode ≡ reach_plain t mode
   unfolding reach

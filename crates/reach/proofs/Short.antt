@@ -5,7 +5,7 @@ use mathlib.Core.List.{List}
 use Prim.Native.Nat.{ℕ, ◌+◌, ◌*◌, ◌/◌, ◌%◌, ◌<◌, ◌≤◌}
 use native.Mathlib.Omega.{arith}
 use native.Mathlib.Decide.{ℕ_discrete}
-use native.Mathlib.Nat.{add-mul, mul-le-mul}
+use native.Mathlib.Nat.{add-mul}
 use lib.Bits.{bit_and, and_zero_r}
 use lib.ListN.{get_or}
 use borrow.Author.Tests.{eq-eqb, ne_eqb}
@@ -18,19 +18,6 @@ use Rattle.reach.proofs.Joined.{none_all, reason_search}
 use Rattle.reach.proofs.Bytes.{ors_zero}
 use Rattle.reach.proofs.Spans.{reached_words, row_reached}
 use Rattle.reach.proofs.Asked.{clear_word}
-
--- so many lines are so many words at most
-pub words_on : (rows most line : ℕ) → rows ≤ most → line < bank_words → rows * line ≤ most * bank_words
-words_on rows most line h l = mul-le-mul h (omega (arith, l))
-
--- one four more has nothing
-pub one_more : (m : List ℕ) (one : Span) (line n : ℕ) → BlankFours m one line n
-    → ors 4 (λ k. eight_in m one (4 * n * line + k * line)) ≡ 0 → BlankFours m one line (n + 1)
-one_more m one line n b e i h = go (ℕ_discrete i n)
-  where
-    go : Dec (i ≡ n) → ors 4 (λ k. eight_in m one (4 * i * line + k * line)) ≡ 0
-    go (yes q) = rw q e
-    go (no q) = b i (omega (arith, q))
 
 -- the first word of a row, from that of row 0
 stepped : (low : Bool) (a p : ℕ) → ((a + p) % bank_words + 0) % words_of low ≡ ((a + 0) % bank_words + p) % words_of low
@@ -50,9 +37,9 @@ module _ (m : List ℕ) (t : Tile) (mode : ℕ) where
   unfolding eight_in
   row_eight y = rw (row_word y)
 
-  row_lanes : (y z : ℕ) → y % 2 ≡ z % 2 → lanes_in (row y) 0 ≡ lanes_in (row z) 0
+  row-lanes : (y z : ℕ) → y % 2 ≡ z % 2 → lanes_in (row y) 0 ≡ lanes_in (row z) 0
   unfolding lanes_in
-  row_lanes y z e = rw e
+  row-lanes y z e = rw e
 
   module _ (short : row_bytes t ≤ 8) (small : (i : ℕ) → get_or m i 0 < 256) where
     row_clear : (y : ℕ) → bit_and (lanes_in (row y) 0) (eight_in m (row 0) (y * t.line)) ≡ 0 → first_reason m (reach_row t mode y) ≡ 0
@@ -75,8 +62,8 @@ module _ (m : List ℕ) (t : Tile) (mode : ℕ) where
       where
         go : Dec (k % 2 ≡ 1) → row_lanes m (row 0) (row 1) t.line (y * t.line) k ≡ 0
             → bit_and (lanes_in (row (y + k)) 0) (eight_in m (row 0) (y * t.line + k * t.line)) ≡ 0
-        go (yes o) z = rw (row_lanes (y + k) 1 (omega arith)) (rw (eq-eqb (k % 2) 1 o) at z)
-        go (no o) z = rw (row_lanes (y + k) 0 (omega (arith, o))) (rw (ne_eqb (k % 2) 1 o) at z)
+        go (yes o) z = rw (row-lanes (y + k) 1 (omega arith)) (rw (eq-eqb (k % 2) 1 o) at z)
+        go (no o) z = rw (row-lanes (y + k) 0 (omega (arith, o))) (rw (ne_eqb (k % 2) 1 o) at z)
 
     -- and where their words have nothing at all
     pub four-blank : (y : ℕ) → ors 4 (λ k. eight_in m (row 0) (y * t.line + k * t.line)) ≡ 0 → (k : ℕ) → k < 4

@@ -1,6 +1,6 @@
 -- Laws of a span: what it reaches word by word, and which spans a row, a lookup and the palette are.
 use mathlib.Core.Path.{◌≡◌, refl, ap, sym, ◌∙◌}
-use mathlib.Core.Bool.{Bool, true, false, cond, ◌&&◌, ◌||◌, true≢false}
+use mathlib.Core.Bool.{Bool, true, false, cond, ◌&&◌, ◌||◌}
 use mathlib.Core.List.{List, [], ◌∷◌, ◌++◌}
 use Prim.Native.Nat.{ℕ, zero, suc, ◌+◌, ◌-◌, ◌*◌, ◌/◌, ◌%◌, ◌^◌, ◌<◌, ◌≤◌, min}
 use native.Mathlib.Numerals.{add-one}
@@ -52,10 +52,6 @@ wrapped_once : (low : Bool) (n s : ℕ) → (8 * (n % bank_words) + s) % bytes_o
 wrapped_once true n s = omega arith
 wrapped_once false n s = omega arith
 
-pub wrapped_lt : (low : Bool) (n : ℕ) → n % words_of low < bank_words
-wrapped_lt true n = omega arith
-wrapped_lt false n = omega arith
-
 -- eight bytes a word
 pub bank_bytes : (low : Bool) → 8 * words_of low ≡ bytes_of low
 bank_bytes true = refl
@@ -76,15 +72,7 @@ module _ (s : Span) where
   cut_all : (w : ℕ) → s.bytes ≤ 8 * w → cut_at s w ≡ places_in s.sparse s.bytes
   cut_all w h = let e : min (8 * w) s.bytes ≡ s.bytes = omega arith in ap (places_in s.sparse) e
 
-  -- a word has eight places at most, and each is one of its eight bytes
-  pub places_le : (w : ℕ) → places_of s w ≤ 8
-  places_le w = go s.sparse
-    where
-      go : (b : Bool) → places_in b (min (s.bytes - 8 * w) 8) ≤ 8
-      go true = omega arith
-      go false = omega arith
-
-  -- and a word of the span has one
+  -- a word of the span has a place
   pub places_some : (w : ℕ) → 8 * w < s.bytes → 0 < places_of s w
   places_some w h = go s.sparse
     where
@@ -92,6 +80,7 @@ module _ (s : Span) where
       go true = omega arith
       go false = omega arith
 
+  -- and each is one of its eight bytes
   pub byte-lt : (w k : ℕ) → k < places_of s w → byte_of s k < 8
   byte-lt w k h = swap_lt s.odd (step_of s.sparse * k) (go s.sparse h)
     where
@@ -135,7 +124,8 @@ module _ (s : Span) (w : ℕ) (h : 8 * w < s.bytes) where
   word_more : concat (tab (cut_at s (w + 1)) (reached_at s)) ≡ concat (tab (cut_at s w) (reached_at s)) ++ word_reached s w
   unfolding word_reached
   word_more =
-      rw (cut-more, tab-cut (cut_at s w) (places_of s w) (reached_at s), concat-append, tab-same (places_of s w) _ (place_reached s w) in_word)
+      let same = tab-same (places_of s w) _ (place_reached s w) in_word in
+      rw (cut-more, tab-cut (cut_at s w) (places_of s w) (reached_at s), concat-append, same)
 
 -- what a span reaches is what its words do, one after the other
 module _ (s : Span) where
@@ -241,13 +231,6 @@ module _ (t : Tile) (mode : ℕ) where
   pub row_bounds : (y : ℕ) → Bounds (row_span t mode y)
   row_bounds y = record { bytes = row_bytes-le t; twice = low_where_both }
 
-  pub whole_bounds : Bounds whole_span
-  whole_bounds = record { bytes = go (low_half t mode); twice = low_where_both }
-    where
-      go : (low : Bool) → bytes_of low ≤ bank_size
-      go true = omega arith
-      go false = omega arith
-
 -- lists of one number each
 concat-one : (n : ℕ) (f : ℕ → ℕ) → concat (tab n (λ i. f i ∷ [])) ≡ tab n f
 unfolding concat
@@ -278,9 +261,6 @@ module _ (word bytes : ℕ) (h : 8 * word + bytes ≤ palette_base) where
     where
       at : (i : ℕ) → i < bytes → (8 * (low_words + word) + 1 * i) % bank_size ≡ palette_base + 8 * word + i
       at i l = omega arith
-
-  pub upper_bounds : Bounds upper_span
-  upper_bounds = record { bytes = omega arith; twice = λ t. absurd (true≢false (sym t)) }
 
 -- the palette's order: the tile's own, or all
 module _ (t : Tile) (mode : ℕ) (h : 2 ≤ mode) where

@@ -1,6 +1,6 @@
 -- Laws of the places of one word: marking them, or looking for one, is one step on the word's byte.
 use mathlib.Core.Path.{◌≡◌, refl, ap, ap₂, sym, ◌∙◌}
-use mathlib.Core.Bool.{Bool, true, false, ◌||◌, or_false}
+use mathlib.Core.Bool.{Bool, true, false, ◌||◌, or-false}
 use mathlib.Core.List.{List}
 use Prim.Native.Nat.{ℕ, zero, suc, ◌+◌, ◌*◌, ◌^◌, ◌<◌}
 use native.Mathlib.Omega.{arith}
@@ -87,11 +87,11 @@ module _ (w : ℕ) where
     found_twin : (twice : Bool) (s : ℕ) → s < 8 → any (is_written m) (twin twice (8 * w + s)) ≡ word_meets twice m w (2 ^ s)
     unfolding word_meets twin any
     found_twin true s h =
-        rw (upper, is_written_word m w s h, is_written_word m (w + low_words) s h, or_false (meets m (w + low_words) (2 ^ s)))
-    found_twin false s h = rw (is_written_word m w s h) (or_false _)
+        rw (upper, is_written_word m w s h, is_written_word m (w + low_words) s h, or-false (meets m (w + low_words) (2 ^ s)))
+    found_twin false s h = rw (is_written_word m w s h) (or-false _)
 
     pub word_any : (twice : Bool) (g : ℕ → ℕ) (n : ℕ) → ((k : ℕ) → k < n → g k < 8)
         → any (is_written m) (concat (tab n (λ k. twin twice (8 * w + g k)))) ≡ word_meets twice m w (ors n (λ k. 2 ^ g k))
     word_any twice g n e =
-        part_any (is_written m) (word_meets twice m w) (found_none twice) (found_more twice) (λ k. twin twice (8 * w + g k)) (λ k. 2 ^ g k) n
-        (λ k h. found_twin twice (g k) (e k h))
+        part_any (is_written m) (word_meets twice m w) (found_none twice) (found_more twice) (λ k. twin twice (8 * w + g k))
+        (λ k. 2 ^ g k) n (λ k h. found_twin twice (g k) (e k h))

@@ -63,7 +63,8 @@ word_reached s w = concat (tab (places_of s w) (place_reached s w))
 -- the eight bytes of the word that is w words on in one number, with those of the word that it stands for
 unfoldable pub eight_in : List ℕ → Span → ℕ → ℕ
 eight_in m s w =
-    cond s.twice (bit_or (eight_bytes m (8 * word_in s w)) (eight_bytes m (8 * word_in s w + palette_base))) (eight_bytes m (8 * word_in s w))
+    cond s.twice (bit_or (eight_bytes m (8 * word_in s w)) (eight_bytes m (8 * word_in s w + palette_base)))
+    (eight_bytes m (8 * word_in s w))
 
 -- a number whose halves of h bits change places on odd rows
 abbrev pub in_halves : ℕ → Bool → ℕ → ℕ

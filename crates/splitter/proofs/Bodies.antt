@@ -1,15 +1,11 @@
 -- Laws of bodies: their bytes, and when two are the same.
-use mathlib.Core.Path.{◌≡◌, refl, ap, sym, ◌∙◌}
-use mathlib.Core.Bool.{Bool, true, false, not, ◌||◌, true≢false}
+use mathlib.Core.Path.{◌≡◌, ap, sym, ◌∙◌}
 use mathlib.Core.List.{List, [], ◌∷◌}
 use Prim.Native.Nat.{ℕ, zero, suc, ◌+◌, ◌*◌, ◌≤◌}
 use native.Mathlib.Omega.{arith}
 use native.Mathlib.Nat.{zero-add, suc-add}
-use lib.Dec.{eqb}
-use lib.ListN.{length, get_or, take, drop, length-take, length-drop}
+use lib.ListN.{length, take, drop, length-take, length-drop}
 use lib.Seq.{drop-drop, ext_get_or, take-nil}
-use borrow.Author.Count.{below_more}
-use borrow.Author.Tests.{eqb-true, not-false}
 use Rattle.rules.specs.Split.{entry_size, capture_size, body_at}
 use Rattle.splitter.specs.Bodies.{body_size, SameUpTo}
 
@@ -32,16 +28,3 @@ module _ (entries : List ℕ) (i : ℕ) where
 pub bodies_same : (a b : List ℕ) → length a ≡ body_size → length b ≡ body_size
     → SameUpTo a b body_size → a ≡ b
 bodies_same a b p q h = ext_get_or 0 a b (p ∙ sym q) (λ k l. h k (rw p at l))
-
--- up to a place where the bytes are the same, and that place
-pub same_more : (a b : List ℕ) (n : ℕ) → SameUpTo a b n → get_or a n 0 ≡ get_or b n 0 → SameUpTo a b (n + 1)
-same_more a b n h e = below_more _ _ h e
-
--- one place more, where no byte differed
-pub none_differed : (a b : List ℕ) (s k : ℕ) (d : Bool) → (d ≡ false → SameUpTo a b s → SameUpTo a b (s + k))
-    → (d || not (eqb (get_or a (s + k) 0) (get_or b (s + k) 0))) ≡ false → SameUpTo a b s → SameUpTo a b (s + (k + 1))
-none_differed a b s k true before h all = absurd (true≢false h)
-none_differed a b s k false before h all =
-    let more = same_more a b (s + k) (before refl all) (eqb-true _ _ (not-false _ h)) in
-    let e : s + (k + 1) ≡ s + k + 1 = omega arith in
-    rw e more

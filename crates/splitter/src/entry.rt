@@ -14,8 +14,8 @@ pub(crate) const BODY_SIZE: usize = ENTRY_SIZE - CAPTURE_SIZE;
 
 // The body of entry i.
 pub(crate) fn body_at(entries: &[u8], i: usize) -> &[u8]
-    requires i_lt_entry_limit { i < entry_limit }
-    requires entry_size_in_bounds { (i + 1) * entry_size ≤ length entries.now }
+    requires room { i < entry_limit }
+    requires entry_within { (i + 1) * entry_size ≤ length entries.now }
     ensures { result.now ≡ body_at entries.now i }
 {
     let start = i * ENTRY_SIZE + CAPTURE_SIZE;
@@ -28,8 +28,8 @@ const BLOCK: usize = 64;
 
 // Two bodies differ in a block that starts at a place. There is no way out of the loop, so that bytes are compared many at a time.
 fn block_differs(a: &[u8], b: &[u8], start: usize) -> bool
-    requires a_len { (length a.now ≡ body_size) × (length b.now ≡ body_size) }
-    requires block_size_bound { start + block_size ≤ body_size }
+    requires sizes { (length a.now ≡ body_size) × (length b.now ≡ body_size) }
+    requires block_within { start + block_size ≤ body_size }
     ensures { result ≡ false → SameUpTo a.now b.now start
         → SameUpTo a.now b.now (start + block_size) }
 {
@@ -43,7 +43,7 @@ fn block_differs(a: &[u8], b: &[u8], start: usize) -> bool
 // The start of the first block in which two bodies differ, or of what is left after the last block.
 fn same_blocks(a: &[u8], b: &[u8]) -> usize
     requires { (length a.now ≡ body_size) × (length b.now ≡ body_size) }
-    ensures upper_bound { result ≤ body_size }
+    ensures within { result ≤ body_size }
     ensures same_up_to { SameUpTo a.now b.now result }
 {
     let mut i = 0;
@@ -59,9 +59,9 @@ fn same_blocks(a: &[u8], b: &[u8]) -> usize
 // The first place where two bodies differ, or the bytes of a body where they are the same.
 pub(crate) fn differ(a: &[u8], b: &[u8]) -> usize
     requires { (length a.now ≡ body_size) × (length b.now ≡ body_size) }
-    ensures upper_bound { result ≤ body_size }
+    ensures within { result ≤ body_size }
     ensures same_up_to { SameUpTo a.now b.now result }
-    ensures fact { result < body_size → get_or a.now result 0 ≡ get_or b.now result 0 → ⊥ }
+    ensures differ_there { result < body_size → get_or a.now result 0 ≡ get_or b.now result 0 → ⊥ }
 {
     let mut i = same_blocks(a, b);
     while i < a.len() {

@@ -16,11 +16,11 @@ pub(crate) fn group_of(
     places: &mut [u16],
     values: &mut [u8],
 ) -> usize
-    requires i_lt_entry_limit { i < entry_limit }
-    requires entry_size_in_bounds { (i + 1) * entry_size ≤ length entries.now }
+    requires room { i < entry_limit }
+    requires entry_within { (i + 1) * entry_size ≤ length entries.now }
     requires known { Known (body_at entries.now) i groups firsts.old (asked links.old places.old values.old) }
-    ensures value { result ≡ group_of (body_at entries.now) i }
-    ensures known_2 { Known (body_at entries.now) (i + 1) (groups_before (body_at entries.now) (i + 1))
+    ensures group { result ≡ group_of (body_at entries.now) i }
+    ensures known_after { Known (body_at entries.now) (i + 1) (groups_before (body_at entries.now) (i + 1))
         firsts.new (asked links.new places.new values.new) }
 {
     let body = body_at(entries, i);

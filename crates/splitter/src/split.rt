@@ -30,10 +30,10 @@ fn groups_with(groups: usize, group: usize) -> usize
 
 // The sides of entries, and how many are held out. The first entry begins group 0, on the tuning side.
 fn write_sides(entries: &[u8], out: &mut [u8]) -> u32
-    requires out_len_bound { length out.old ≤ entry_limit }
-    requires entries_len { length entries.now ≡ length out.old * entry_size }
-    ensures out_after { out.new ≡ sides (body_at entries.now) (length out.old) }
-    ensures value { result ≡ total 1 (sides (body_at entries.now) (length out.old)) }
+    requires room { length out.old ≤ entry_limit }
+    requires entries_size { length entries.now ≡ length out.old * entry_size }
+    ensures sides_written { out.new ≡ sides (body_at entries.now) (length out.old) }
+    ensures counted { result ≡ total 1 (sides (body_at entries.now) (length out.old)) }
 {
     if out.len() == 0 {
         return 0;

@@ -6,9 +6,9 @@ ghost use Rattle.splitter.specs.Way.{asked, says_yes, Passes, Guides, Onto, Led,
 
 // The answer of a body to question g.
 fn is_yes(body: &[u8], places: &[u16], values: &[u8], g: usize) -> bool
-    requires g_in_bounds { g < length places.now }
-    requires g_in_bounds_2 { g < length values.now }
-    requires g_in_bounds_3 { get_or places.now g 0 < length body.now }
+    requires in_places { g < length places.now }
+    requires in_values { g < length values.now }
+    requires in_body { get_or places.now g 0 < length body.now }
     ensures { result ≡ says_yes places.now values.now body.now g }
 {
     body[places[g] as usize] == values[g]
@@ -25,7 +25,7 @@ fn pass_noes(
 ) -> usize
     requires body_len { length body.now ≡ body_size }
     requires guides { Guides (asked links.now places.now values.now) groups }
-    requires slot_bound { (slot < 2 * groups) × Passes (asked links.now places.now values.now) body.now slot }
+    requires slot_passed { (slot < 2 * groups) × Passes (asked links.now places.now values.now) body.now slot }
     ensures { Onto (asked links.now places.now values.now) body.now groups slot result }
 {
     let mut at = slot;
@@ -76,8 +76,8 @@ pub(crate) fn ask(
     value: u8,
 )
     requires guides { Guides (asked links.old places.old values.old) g }
-    requires g_lt_entry_limit { (g < entry_limit) × (slot < 2 * g) }
-    requires place_lt_body_size { place < body_size }
+    requires room { (g < entry_limit) × (slot < 2 * g) }
+    requires place_inside { place < body_size }
     ensures { asked links.new places.new values.new
         ≡ more (asked links.old places.old values.old) g slot place value }
 {

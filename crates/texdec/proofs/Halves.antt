@@ -8,7 +8,7 @@ use lib.Bits.{or_shifted}
 use lib.ListN.{length, get_or, get_or-append, length-append}
 use lib.Seq.{get_or-append-add}
 use Rattle.rules.specs.Base.{tab}
-use Rattle.rules.specs.Texdec.{channels, ready, entry_of, wide5, alpha1, rgba16_texel, ia16_texel}
+use Rattle.rules.specs.Texdec.{channels, ready, entry_of, wide5, rgba16_texel, ia16_texel}
 use Rattle.rules.proofs.Tables.{get_or-tab, length-tab}
 use Rattle.texdec.specs.Ready.{halves_of}
 use Rattle.texdec.proofs.Ready.{channels-ready, alpha_small}

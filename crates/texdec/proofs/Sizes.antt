@@ -1,6 +1,6 @@
 -- The accepted pairs, size by size: none has a size above 3.
 use mathlib.Core.Path.{◌≡◌, sym, ◌∙◌}
-use mathlib.Core.Bool.{Bool, false, and_false}
+use mathlib.Core.Bool.{Bool, false, and-false}
 use Prim.Native.Nat.{ℕ, zero, suc, ◌<◌}
 use native.Mathlib.Omega.{arith}
 use lib.Dec.{eqb}
@@ -12,7 +12,7 @@ none_above : (fmt siz : ℕ) → 3 < siz → accepted_direct fmt siz ≡ false
 unfolding accepted_direct any
 none_above fmt siz h =
     let other : (k : ℕ) → k < 4 → eqb siz k ≡ false = λ k l. ne_eqb siz k (λ e. omega arith) in
-    simp (other 0 (omega arith), other 1 (omega arith), other 2 (omega arith), other 3 (omega arith), and_false)
+    simp (other 0 (omega arith), other 1 (omega arith), other 2 (omega arith), other 3 (omega arith), and-false)
 
 -- a test that is the rule's at the sizes 0 to 3, and fails above
 pub by_size : (fmt : ℕ) (f : ℕ → Bool) → f 0 ≡ accepted_direct fmt 0 → f 1 ≡ accepted_direct fmt 1 → f 2 ≡ accepted_direct fmt 2

@@ -1,6 +1,5 @@
 -- Laws of the written record; of stores and of their places, of a word load, its eight bytes and its tally, of runs of words, and of rows
 -- of entries; what a load that is not refused may count on, and the loads as runs of words; the theorems of one answer.
-pub mod Again
 pub mod Halfwords
 pub mod Carry
 pub mod Indices

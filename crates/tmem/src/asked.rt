@@ -12,7 +12,7 @@ use crate::load_tlut::write_tlut_words;
 use crate::place::LoadTile;
 use crate::tally::Tally;
 
-#[derive(Drop)]
+#[derive(Clone, Copy)]
 pub enum Asked {
     // Words one after the other, whose row advances by dxt 2,048ths a word.
     Block {

@@ -32,16 +32,16 @@ impl Bank {
 
     // The sizes are the rules' numbers.
     pub(crate) fn numbers()
-        ensures* do_value { do ⌜ (← (⟦Bank::SIZE⟧).entry) ≡ bank_size ⌝ }
-        ensures* do_value_2 { do ⌜ (← (⟦Bank::WRITTEN_SIZE⟧).entry) ≡ written_size ⌝ }
-        ensures* do_value_3 { do ⌜ (← (⟦Bank::REASONS_SIZE⟧).entry) ≡ reasons_size ⌝ }
-        ensures* do_value_4 { do ⌜ (← (⟦Bank::PALETTE_BASE⟧).entry) ≡ palette_base ⌝ }
+        ensures size { Bank.SIZE ≡ bank_size }
+        ensures written_size { Bank.WRITTEN_SIZE ≡ written_size }
+        ensures reasons_size { Bank.REASONS_SIZE ≡ reasons_size }
+        ensures palette_base { Bank.PALETTE_BASE ≡ palette_base }
     {}
 
     // So are the masks.
     pub(crate) fn masks()
-        ensures* do_value { do ⌜ (← (⟦Bank::MASK8⟧).entry) ≡ mask8 ⌝ }
-        ensures* do_value_2 { do ⌜ (← (⟦Bank::MASK16⟧).entry) ≡ mask16 ⌝ }
+        ensures mask8 { Bank.MASK8 ≡ mask8 }
+        ensures mask16 { Bank.MASK16 ≡ mask16 }
     {}
 
     // All zero.

@@ -4,7 +4,7 @@ ghost use Rattle.rules.specs.Load.{reason_outside, reason_left};
 ghost use Rattle.tmem.specs.Reasons.{reason_of};
 
 // A load is ordinary, or its source was rejected, for a reason that has a number.
-#[derive(Drop)]
+#[derive(Clone, Copy)]
 pub enum Reason {
     Ordinary,
     Rejected(u32),

@@ -1,7 +1,6 @@
 -- `rdp::tile::tile_and_mode_refusal` answers the first test that fails: each return rewrites by the tests that led there.
 -- Assumes nothing.
 use mathlib.Core.Path.{sym, ◌∙◌}
-use borrow.Author.Rules.{rules}
 use Rattle.rules.specs.Refusal.{first}
 use Rattle.rdp.proofs.tile.tile_and_mode_refusal.Goals as goal
 

@@ -6,7 +6,6 @@ use Prim.Native.Nat.{ℕ, ◌*◌, ◌≤◌}
 use mathlib.Core.Bool.{Bool, true, false}
 use mathlib.Core.Path.{◌≡◌, refl}
 use Rattle.rules.specs.Picture.{swap_odd}
-use borrow.Author.Rules.{rules}
 use Rattle.rdp.proofs.units.swap_odd_line.Goals as goal
 
 small : (b : Bool) → bool_byte b ≤ 1

@@ -1,6 +1,5 @@
 -- `rdp::tile::TileDescriptor::column` is the rule's choice: each return rewrites by the tests that led there. Assumes nothing.
 use borrow.Author.Tests.{eq-eqb, ne_eqb}
-use borrow.Author.Rules.{rules}
 use Rattle.rdp.proofs.tile.TileDescriptor.column.Goals as goal
 
 pub returns-then-self-tlut : goal.returns-then-self-tlut

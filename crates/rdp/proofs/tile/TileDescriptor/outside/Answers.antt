@@ -1,5 +1,4 @@
 -- `rdp::tile::TileDescriptor::outside` is the rule's test: its first part is what `load_fields_outside` says. Assumes nothing.
-use borrow.Author.Rules.{rules}
 use Rattle.rdp.proofs.tile.TileDescriptor.outside.Goals as goal
 
 pub returns : goal.returns

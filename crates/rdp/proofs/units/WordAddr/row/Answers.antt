@@ -2,7 +2,6 @@
 use Prim.Native.Nat.{◌*◌, ◌≤◌}
 use native.Mathlib.Nat.{mul-le-mul}
 use native.Mathlib.Omega.{arith}
-use borrow.Author.Rules.{rules}
 use Rattle.rdp.proofs.units.WordAddr.row.Goals as goal
 
 few : (c : goal.After-struct_known-2-1) → let a = c.args in a.row * a.line.0 ≤ 4294967295 * 4294967295

@@ -1,0 +1,12 @@
+-- `key::indices::note_sparse_bytes` notes every second byte of the word, one after the other. Assumes nothing.
+use mathlib.Core.Path.{◌≡◌}
+use mathlib.Core.List.{[]}
+use Prim.Native.Nat.{◌+◌, ◌*◌}
+use Rattle.rules.specs.Reading.{trail, up_to}
+use Rattle.key.specs.Notes.{noted}
+use Rattle.key.specs.Words.{ask_one}
+use Rattle.key.proofs.indices.note_sparse_bytes.Given as goal
+
+abbrev pub invariant-loop-k : goal.invariant-loop-k
+invariant-loop-k l =
+    l.notes ≡ noted l.initial.notes (trail (up_to l.k (λ k. ask_one (8 * l.at + 2 * k))) [])

@@ -1,0 +1,9 @@
+-- `reach::rows::some_rows` goes from row to row: the rows before row y have no reason.
+use Rattle.std.proofs.Common.{◌≡◌, ◌+◌, ◌-◌}
+use Rattle.rules.specs.Base.{tab, concat}
+use Rattle.rules.specs.Reach.{reach_row, first_reason}
+use Rattle.rdp.specs.View.{tile_of}
+use Rattle.reach.proofs.rows.some_rows.Given as goal
+
+abbrev pub invariant-loop-y : goal.invariant-loop-y
+invariant-loop-y l = first_reason l.reasons (concat (tab (l.y - l.from) (λ k. reach_row (tile_of l.tile) l.tlut (l.from + k)))) ≡ 0

@@ -1,0 +1,10 @@
+-- `splitter::way::lead` goes the way of a body. The loop's invariant: the slot is one of this way. Assumes nothing.
+use Prim.Native.Nat.{◌<◌, ◌*◌, ◌/◌, ◌-◌}
+use Rattle.splitter.specs.Way.{asked, Passes}
+use Rattle.splitter.proofs.way.lead.Given as goal
+
+abbrev pub invariant-loop-groups : goal.invariant-loop-groups
+invariant-loop-groups l = (l.slot < 2 * l.groups) × Passes (asked l.links l.places l.values) l.body l.slot
+
+abbrev pub decreases-loop-groups : goal.decreases-loop-groups
+decreases-loop-groups l = l.groups - l.slot / 2

@@ -1,0 +1,9 @@
+-- `texdec::channel::alpha` is the rule's choice, by the same test. Assumes nothing.
+use borrow.Author.Tests.{eq-eqb, ne_eqb}
+use Rattle.texdec.proofs.channel.alpha.Goals as goal
+
+pub returns-then-bit-eq1 : goal.returns-then-bit-eq1
+returns-then-bit-eq1 c = rw (eq-eqb _ _ c.if-bit-eq1.true)
+
+pub returns-else-bit-eq1 : goal.returns-else-bit-eq1
+returns-else-bit-eq1 c = rw (ne_eqb _ _ c.if-bit-eq1.false)
