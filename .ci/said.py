@@ -1,5 +1,5 @@
 """What the prover says in the log of a check, and whether it says of a declaration that a fact is not proved. A proof can also be
-refused because it no longer fits its function: a field or a need is gone, it has other arguments, or two types differ. Only these
+refused because it no longer fits its function: a field or a goal is gone, it has other arguments, or two types differ. Only these
 words say that a fact is not proved; the tests have an example of each (tests/gate/run)."""
 
 import os
@@ -26,20 +26,23 @@ PARTS = re.compile(
     r"computed as far as they go, the two types (?:differ only|first differ) where one has `([^`]*)`.*?the other has `([^`]*)`"
 )
 SIDES = re.compile(r"`([^`]*)` ≟ `([^`]*)` does not hold")
-# A test that does not compute to true, and one that does not compute: it waits on a definition that the theorem does not unfold.
+# A test that does not compute to true, and one of which that is not seen: it waits on a definition that the theorem does not unfold.
 TEST = re.compile(r"expected type `(?:[^`\s]*\.)?T \(([^`]*)\)`,? but this has type `(?:[^`\s]*\.)?Unit\b")
-STUCK = re.compile(r"computed as far as it goes, the expected one begins ")
+STUCK = re.compile(r"computed as far as it goes, the expected one begins |what the two types compute to is not shown")
 
 # A goal that `search` does not prove: in a note, with its place in the source, and in the line of its function.
 NOTE = re.compile(r"note: (src/[^\s:]*):(\d+):\d+: it is not proved that .*\(`([^`]*)`\)")
-SEARCHED = re.compile(r"fn (\S+): no proof: .*`search` (?:did not prove|does not close) (.*)")
-# An answer that is for a goal or a place which the function no longer has.
+SEARCHED = re.compile(r"fn (\S+): no proof: .*`search` did not prove ((?:`[^`]*`(?:, )?)+)")
+FALSE = "allow values at which this goal is false"
+# An answer or a lemma that speaks of what the function no longer has.
 LOST = re.compile(r"has no `[^`]*` that can be named|is not in scope|has no field")
 
 BETWEEN = {"→", "≡", "≤", "<"}
-EQUATIONS = {"≡", "_≡_", "Path"}
+EQUATIONS = {"≡", "◌≡◌", "Path"}
 # Statements that a number is small: one of them can hold of two numbers.
-BOUNDS = {"≤", "<", "_≤_", "_<_", "Fits"}
+BOUNDS = {"≤", "<", "◌≤◌", "◌<◌", "Fits"}
+# A goal of a function, or a place in its code, by the name that the toolchain gives it.
+GOAL = re.compile(r"\(*(?:\S*\.)?[gG]oals?\.[^\s.]+")
 # A contract, or a part of one, as the toolchain reads it.
 CONTRACTS = {"Pre", "Post", "Asked", "Learnt", "AllOf"}
 
@@ -82,9 +85,9 @@ def one_statement(expected, found):
 
 
 def fits(expected, found):
-    """The proof of one type can be meant for the other: neither is a need, which stands for a place in the code, nor a bound,
+    """The proof of one type can be meant for the other: neither is a goal, which stands for a place in the code, nor a bound,
     which can be handed over for another number and hold of both."""
-    return not any(word in BOUNDS or word.startswith("Need-") for word in (head(expected), head(found)))
+    return not any(head(text) in BOUNDS or GOAL.match(text) for text in (expected, found))
 
 
 def failed_test(message):
@@ -120,7 +123,7 @@ def heading(changes):
     return f"== with {', '.join(change.name for change in changes)}\n"
 
 
-def tries(log):
+def checks(log):
     """The checks that a log has: for each, the names of the changes that were made, or none where no line names them; and each thing
     that it says."""
     found = []
@@ -144,36 +147,44 @@ def function_at(crate, file, line):
 
 def spoken_of(crate, log, where):
     """What the log of a check says against the declarations of a function, or of a file of theorems: for each a declaration, words,
-    and whether they say that a fact is not proved. Where an answer of the function no longer fits, that `search` proves a goal no
-    more is such a word only if values are known at which the goal is false: the goal may have lost its answer."""
+    and whether they say that a fact is not proved. Where an answer of the function lost what it speaks of, a goal that `search` does
+    not prove may only have lost its answer: it counts if values are known at which it is false."""
     *outer, last = where.split("::")
     proof = "/".join(outer + [r"\+?" + last])
     by_hand = re.compile(rf"(?:\S*/)?proofs/{proof}(?:/(?:Proof|Answers|Invariants))?\.antt:\d+:\d+: error: `([^`]*)`: (.*)")
     lost = any(by_hand.match(entry) and LOST.search(entry) for entry in log)
     for entry in log:
-        hand, note, search = by_hand.match(entry), NOTE.match(entry), SEARCHED.match(entry)
+        hand, note, line = by_hand.match(entry), NOTE.match(entry), SEARCHED.match(entry)
         if hand:
             yield hand[1], hand[2], unproved(hand[2])
         elif note and function_at(crate, note[1], int(note[2])) == where:
-            yield note[3], entry, not lost or "allow values at which this goal is false" in entry
-        elif search and search[1] == f"{crate}::{where}":
-            yield from [(goal, entry, not lost) for goal in re.findall(r"`([^`]*)`", search[2])]
+            yield note[3], entry, not lost or FALSE in entry
+        elif line and line[1] == f"{crate}::{where}":
+            yield from [(goal, entry, not lost) for goal in re.findall(r"`([^`]*)`", line[2])]
 
 
-def fault(crate, checks, change):
-    """Nothing, where a check that has the change refuses its fact; else what is wrong."""
-    where, declaration, *test = (change.fact.split() + ["", ""])[: max(2, len(change.fact.split()))]
-    found = [one for names, log in checks if names is None or change.name in names for one in spoken_of(crate, log, where)]
-    at_fact = [(words, is_no) for goal, words, is_no in found if goal == declaration and (not test or failed_test(words) == test)]
+def against(crate, made, change):
+    """What the checks that have the change say against its function, and all that they say."""
+    logs = [log for names, log in made if names is None or change.name in names]
+    where = change.fact.split(" ")[0]
+    return [one for log in logs for one in spoken_of(crate, log, where)], [entry for log in logs for entry in log]
+
+
+def fault(crate, made, change):
+    """Nothing, where one of these checks refuses the fact of the change; else what is wrong."""
+    where, declaration, *test = change.fact.split(" ") if " " in change.fact else (change.fact, "")
+    found, entire = against(crate, made, change)
+    at_fact = [(words, is_no) for one, words, is_no in found if one == declaration and (not test or failed_test(words) == test)]
     if any(is_no for _, is_no in at_fact):
         return None
     if at_fact:
         return f"its proof only no longer fits: {at_fact[0][0][:200]}"
-    return "nothing is refused there"
+    others = sorted({" ".join([one] + failed_test(words)) for one, words, is_no in found if is_no})
+    return "nothing is refused there" + (f", but at {', '.join(others)}" if others else why_none(crate, entire, where))
 
 
-def lines_of(crate, logs, where):
-    """The lines of a function in the logs of checks; where there are none, the first thing that is said to be an error."""
-    found = [entry for log in logs for entry in log if re.match(rf"fn {crate}::{re.escape(where)}: |note: .*`{crate}::{re.escape(where)}`", entry)]
-    errors = [entry for log in logs for entry in log if re.search(r"\berror\b|cannot be made|^rt: ", entry)]
-    return found or errors[:1]
+def why_none(crate, entire, where):
+    """What may be why nothing of the function is refused: its own last line, or the first thing that is said to be wrong."""
+    of_function = [entry for entry in entire if f"`{crate}::{where}`" in entry or entry.startswith(f"fn {crate}::{where}: ")]
+    wrong = [entry for entry in entire if re.match(r"\S+: error\b|.* cannot be made: |rt: the ", entry)]
+    return "".join(f"; the log says: {entry[:200]}" for entry in of_function[-1:] or wrong[:1])

@@ -5,6 +5,7 @@ import functools
 import glob
 import os
 import re
+import sys
 from typing import NamedTuple
 
 # Text in which a bracket or a word means nothing: comments, strings, characters and bytes.
@@ -49,6 +50,14 @@ def listed():
 def crates():
     """The crates that crates.txt lists, in its order."""
     return list(listed())
+
+
+def named(names):
+    """The crates of these names, or all where there is no name."""
+    unknown = [name for name in names if name not in crates()]
+    if unknown:
+        sys.exit(f"{sys.argv[0]}: crates.txt lists no crate {unknown[0]}")
+    return names or crates()
 
 
 def needed(crate):

@@ -1,31 +1,15 @@
-# Read by bench/list and bench/replay, which time a proved program and the same over the original Rust. On a processor that is not
-# x86-64 the proved program is compiled for this one, as host/archive does with the library.
+# Read by bench/list and bench/replay, which time a proved program and the same over the original Rust.
 . "$(dirname "${BASH_SOURCE[0]}")/../host/settings.bash"
 need_original
 built=$root/target/bench
 original=$CARGO_TARGET_DIR/release
 mkdir -p "$built"
 
-# build_proved PROGRAM: makes $built/PROGRAM, the proved program, or the same code for this processor.
-build_proved() (
-    program=$1
-    cd "$root"
-    make_program "$program" >/dev/null
-    if [ "$machine" = x86_64 ]; then
-        cp "target/bin/$program" "$built"
-        exit
-    fi
-    shadow=$(mktemp -d)
-    trap 'rm -rf "$shadow"' EXIT
-    retarget "$(kit)" "$shadow/kit"
-    mkdir "$shadow/target"
-    cp -r crates crates.txt "$shadow"
-    cp -r target/rlib target/stamp "$shadow/target"
-    rm "$shadow/target/stamp/$program"
-    # The link is for x86-64 and fails. The code that it was to link is what is wanted.
-    (cd "$shadow" && RATTLE_HOME=$shadow/kit rt check "$program" >/dev/null 2>&1) || true
-    gcc -O2 "$shadow/target/obj/$program.o" bench/programs/os.c -o "$built/$program"
-)
+# build_proved PROGRAM: makes $built/PROGRAM, the proved program.
+build_proved() {
+    make_program "$1"
+    cp "$root/target/bin/$1" "$built"
+}
 
 # build_original: makes the programs over the original Rust, in the folder that `original` names.
 build_original() {

@@ -54,7 +54,7 @@ run_proved() {
     prove "$program" "$time"
     if [ "$input" = - ]; then input=/dev/stdin; fi
     set +e
-    run_x86_64 "$root/target/bin/$program" "$@" <"$input" 2>"$said" |
+    "$root/target/bin/$program" "$@" <"$input" 2>"$said" |
         awk -v torn="$torn" '{ print; last = $0 } END { if (last == torn) exit 3 }'
     ended=("${PIPESTATUS[@]}")
     set -e

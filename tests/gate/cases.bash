@@ -31,6 +31,12 @@ fails() {
     fi
 }
 
+# has_said CASE PATTERN: the last command must have said a line of the pattern.
+has_said() {
+    cases=$((cases + 1))
+    grep -q -- "$2" "$room/said" || complain "$1: no line is '$2'"
+}
+
 # finish NAME: says how the cases went, and ends.
 finish() {
     echo "$1: $cases cases, $wrong wrong"

@@ -8,28 +8,32 @@ stand_in() {
     chmod +x "$1"
 }
 
-# parts LAST STATUS: a tree with the gate in it, all of whose parts pass, but that rt ci ends with this line and this status.
+# What rt ci says above its last line, where all is well.
+well='rt: ok; handles allowed: none; must-fail edits: 2 refused; every proof and must-fail edit was done in this run'
+
+# parts LAST STATUS [SAID]: a tree with the gate in it, all of whose parts pass, but that rt ci ends with this line and this status, and
+# says this above it.
 parts() {
     local part
     rm -rf "$gate"
     mkdir -p "$gate/host" "$gate/original/ultragfx/src/hle"
     touch "$gate/original/ultragfx/src/hle/tmem.rs"
     cp "$ci/../host/settings.bash" "$gate/host"
-    for part in .ci/columns .ci/names .ci/contracts .ci/refused tests/gate/run; do
+    for part in .ci/columns .ci/names .ci/contracts .ci/edits .ci/refused tests/gate/run; do
         stand_in "$gate/$part" "echo 'part: $part'"
     done
     stand_in "$gate/.ci/host" '
         echo "part: .ci/host"
-        case $TULONKASA_ARCHIVE:$TULONKASA_PRODUCT in */other.a*) exit 1 ;; esac'
+        case $TULONKASA_ARCHIVE:$TULONKASA_SHARED in */other.*) exit 1 ;; esac'
     cp "$ci/run" "$gate/.ci/run"
     stand_in "$gate/bin/rt" "
-        echo \"part: rt \$1\"
-        if [ \"\$1\" = ci ]; then echo 'rt: ok'; echo; echo '$1'; exit $2; fi"
+        echo \"part: rt \$*\"
+        if [ \"\$1\" = ci ]; then echo '${3:-$well}'; echo; echo '$1'; exit $2; fi"
 }
 
 # run_gate [ORIGINAL]: runs it, with another archive named from outside.
 run_gate() {
-    (cd "$gate" && PATH=$gate/bin:$PATH TULONKASA_ARCHIVE=/other.a TULONKASA_PRODUCT=/other.a \
+    (cd "$gate" && PATH=$gate/bin:$PATH TULONKASA_ARCHIVE=/other.a TULONKASA_SHARED=/other.so \
         TULONKASA_ORACLE_SOURCE=$gate/${1:-original} bash .ci/run)
 }
 
@@ -50,12 +54,12 @@ not_passed() {
 }
 
 order() {
-    local part
+    local part words
     parts '3 passed, 0 failed' 0
     passes "the gate: all parts pass" run_gate
     cp "$room/said" "$room/printed"
     printed "the order of the parts" "sed -n 's/^part: //p' | paste -sd ," \
-        'rt fmt,.ci/columns,tests/gate/run,.ci/names,.ci/contracts,rt ci,.ci/refused,.ci/host'
+        '.ci/columns,tests/gate/run,.ci/names,.ci/contracts,rt ci,.ci/edits,.ci/refused,.ci/host'
     printed "its last line" 'tail -n 1' '3 passed, 0 failed'
     printed "the total above it" "tail -n 2 | head -n 1 | sed 's/[0-9][0-9]*/N/'" 'gate: all took N s'
     printed "the line is printed once" 'grep -c passed' 1
@@ -70,7 +74,17 @@ order() {
     not_passed "rt ci ends badly after a good line" '3 passed, 0 failed'
     parts 'rt: stopped' 0
     not_passed "rt ci ends without its line" 'rt: stopped'
-    for part in .ci/columns .ci/names .ci/contracts .ci/refused .ci/host tests/gate/run; do
+    parts '3 passed, 0 failed' 0 'rt: done'
+    not_passed "rt ci does not say that all is well" 'gate: rt ci did not pass: it does not say'
+    parts '3 passed, 0 failed' 0 "${well/2 refused/1 refused, 1 bad}"
+    not_passed "rt ci counts a bad edit" 'gate: rt ci did not pass: must-fail edits are bad'
+    parts '3 passed, 0 failed' 0 "${well/2 refused/0 refused, 12 bad}"
+    not_passed "rt ci counts many bad edits" 'gate: rt ci did not pass: must-fail edits are bad'
+    for words in 'BAD EDIT: an edit' 'NOT TRIED: its check was killed'; do
+        parts '3 passed, 0 failed' 0 "rt: must-fail small/first.edit: $words"$'\n'"$well"
+        not_passed "rt ci says ${words%%:*}" 'gate: rt ci did not pass: must-fail edits were not tried'
+    done
+    for part in .ci/columns .ci/names .ci/contracts .ci/edits .ci/refused .ci/host tests/gate/run; do
         parts '3 passed, 0 failed' 0
         stand_in "$gate/$part" "echo 'part fails'; exit 1"
         not_passed "$part fails" 'part fails'
