@@ -173,7 +173,8 @@ split_made_up size t l start from = go (eqb t.fmt 1)
     go true = refl
     go false = pairs_split (λ k. one (leb size (from k)))
 
-pub word_made_up_lem : (size : ℕ) (t : LoadTile) (s row : ℕ) (from : ℕ → ℕ) → made_up size (word_stores t s row from) ≡ word_made_up size from
+pub word_made_up_lem : (size : ℕ) (t : LoadTile) (s row : ℕ) (from : ℕ → ℕ)
+    → made_up size (word_stores t s row from) ≡ word_made_up size from
 word_made_up_lem size t s row from =
     either_shape t s row from (λ l. made_up size l ≡ word_made_up size from) (λ l start. split_made_up size t l start from)
     (λ l high. whole_made_up size l high (row % 2) from (omega arith))
