@@ -12,6 +12,15 @@ pub(crate) fn source() -> [u8; SOURCE]
     [0u8; SOURCE]
 }
 
+// The bytes of the largest picture.
+pub(crate) const PICTURE: usize = 65536;
+
+pub(crate) fn picture() -> [u8; PICTURE]
+    ensures { 65536 ≡ length result }
+{
+    [0u8; PICTURE]
+}
+
 // One byte more than a bank has, all sevens.
 pub(crate) const SEVENS: usize = Bank::SIZE + 1;
 

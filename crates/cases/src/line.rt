@@ -41,8 +41,7 @@ pub(crate) fn number(line: &[u8], column: usize) -> u32
         + digit(line, at + 4)
 }
 
-// A length that a column asks for, as far as there is room. (The cases lend such a part as `[0..n]`: a part `[..n]` asks for a file
-// of proof.)
+// A length that a column asks for, as far as there is room.
 pub(crate) fn part(line: &[u8], column: usize, room: usize) -> usize
     requires { column < 26 }
     ensures { result ≤ room }

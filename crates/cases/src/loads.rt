@@ -4,6 +4,8 @@
 use crate::line::OWN;
 use crate::{buffers, line, show};
 use rdp::answer::LoadAnswer;
+use std::io;
+use std::io::Write;
 use tmem::asked::Asked;
 use tmem::bank::Bank;
 use tmem::load::{write_block_for_tile, write_tile_for_tile};
@@ -73,22 +75,23 @@ fn load(
 }
 
 // Eight of the bytes, where there are as many.
-fn eight(bytes: &[u8], from: usize) {
+fn eight<W: Write>(output: &mut W, bytes: &[u8], from: usize) -> io::Result<()> {
     if bytes.len() < from {
-        return;
+        return Ok(());
     }
     if bytes.len() - from < 8 {
-        return;
+        return Ok(());
     }
     for k in 0..8 {
-        show::number(bytes[from + k] as u64);
+        show::number(output, bytes[from + k] as u64)?;
     }
+    Ok(())
 }
 
 // Those that the case asks for.
-fn shown(case: &[u8], bytes: &[u8]) {
-    show::text(b":");
-    eight(bytes, line::number(case, SHOWN) as usize);
+fn shown<W: Write>(output: &mut W, case: &[u8], bytes: &[u8]) -> io::Result<()> {
+    show::text(output, b":")?;
+    eight(output, bytes, line::number(case, SHOWN) as usize)
 }
 
 fn weight(bytes: &[u8]) -> u64 {
@@ -96,51 +99,58 @@ fn weight(bytes: &[u8]) -> u64 {
 }
 
 // The load into the first bytes of a bank, a map and reasons. Bank and map are shown whole.
-fn load_into(case: &[u8], bank: &mut [u8], map: &mut [u8], reasons: &mut [u8], src: &[u8]) {
+fn load_into<W: Write>(
+    output: &mut W,
+    case: &[u8],
+    bank: &mut [u8],
+    map: &mut [u8],
+    reasons: &mut [u8],
+    src: &[u8],
+) -> io::Result<()> {
     let bank_len = line::part(case, BANK, bank.len());
     let map_len = line::part(case, MAP, map.len());
     let reasons_len = line::part(case, REASONS, reasons.len());
     let answer = load(
         case,
-        &mut bank[0..bank_len],
-        &mut map[0..map_len],
-        &mut reasons[0..reasons_len],
+        &mut bank[..bank_len],
+        &mut map[..map_len],
+        &mut reasons[..reasons_len],
         src,
     );
-    show::name(case);
-    show::load_answer(answer);
-    show::number(weight(bank));
-    show::number(weight(map));
-    shown(case, bank);
+    show::name(output, case)?;
+    show::load_answer(output, answer)?;
+    show::number(output, weight(bank))?;
+    show::number(output, weight(map))?;
+    shown(output, case, bank)
 }
 
 // The load into a fresh bank, or into parts of a bank of sevens, of a map of nines and of reasons of nines.
-fn load_from(case: &[u8], src: &[u8]) {
+fn load_from<W: Write>(output: &mut W, case: &[u8], src: &[u8]) -> io::Result<()> {
     let lent = line::number(case, LENT);
     if lent == 0 {
         let fresh = Bank::fresh();
         let mut bank = fresh.bytes;
         let mut map = [0u8; Bank::WRITTEN_SIZE];
         let mut reasons = [0u8; Bank::REASONS_SIZE];
-        load_into(case, &mut bank, &mut map, &mut reasons, src);
-        return;
+        return load_into(output, case, &mut bank, &mut map, &mut reasons, src);
     }
     let mut bank = buffers::sevens();
     let mut map = [9u8; Bank::WRITTEN_SIZE + 1];
     let mut reasons = [9u8; Bank::REASONS_SIZE + 1];
-    load_into(case, &mut bank, &mut map, &mut reasons, src);
+    load_into(output, case, &mut bank, &mut map, &mut reasons, src)?;
     if lent == 2 {
-        show::number(weight(&reasons));
-        shown(case, &reasons);
+        show::number(output, weight(&reasons))?;
+        shown(output, case, &reasons)?;
     }
+    Ok(())
 }
 
-pub(crate) fn run(case: &[u8]) {
+pub(crate) fn run<W: Write>(output: &mut W, case: &[u8]) -> io::Result<()> {
     let mut source = buffers::source();
     let start = line::number(case, START);
     let step = line::number(case, STEP);
     buffers::count_up(&mut source, start, step);
     let bytes = line::part(case, BYTES, buffers::SOURCE);
-    load_from(case, &source[0..bytes]);
-    show::text(b"\n");
+    load_from(output, case, &source[..bytes])?;
+    show::text(output, b"\n")
 }

@@ -11,30 +11,39 @@ mod pictures;
 mod reaches;
 mod show;
 
-use libc::STDIN_FILENO;
 use line::LENGTH;
+use std::io;
+use std::io::{BufReader, BufWriter, ErrorKind, Read, Write};
+
+// What is read and written at a time, in bytes.
+const PIECE: usize = 65536;
 
 // The case of a line, by its letter.
-fn run(case: &[u8]) {
+fn run<W: Write>(output: &mut W, case: &[u8]) -> io::Result<()> {
     match line::letter(case) {
-        b'b' | b't' | b'c' | b'B' | b'T' | b'C' => loads::run(case),
-        b'r' | b'm' | b'w' | b'q' | b'l' => reaches::run(case),
-        b'p' | b'o' | b's' => pictures::run(case),
-        _ => {}
+        b'b' | b't' | b'c' | b'B' | b'T' | b'C' => loads::run(output, case),
+        b'r' | b'm' | b'w' | b'q' | b'l' => reaches::run(output, case),
+        b'p' | b'o' | b's' => pictures::run(output, case),
+        _ => Ok(()),
     }
 }
 
 // Runs the next line. Past the end of the input there is none.
-fn run_next() {
+fn run_next<R: Read, W: Write>(input: &mut R, output: &mut W) -> io::Result<()> {
     let mut case = [0u8; LENGTH];
-    if io::read_full(STDIN_FILENO, &mut case) == LENGTH {
-        run(&case);
+    match input.read_exact(&mut case) {
+        Ok(()) => run(output, &case),
+        Err(error) if error.kind() == ErrorKind::UnexpectedEof => Ok(()),
+        Err(error) => Err(error),
     }
 }
 
 // A thousand lines at most.
-fn main() {
+fn main(rt: HostRuntime) -> io::Result<()> {
+    let mut input = BufReader::with_capacity(rt.alloc(), PIECE, rt.stdin())?;
+    let mut output = BufWriter::with_capacity(rt.alloc(), PIECE, rt.stdout())?;
     for _ in 0..1000u32 {
-        run_next();
+        run_next(&mut input, &mut output)?;
     }
+    output.flush()
 }

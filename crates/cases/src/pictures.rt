@@ -6,6 +6,8 @@ use crate::line::OWN;
 use crate::{buffers, line, show};
 use decoder::picture::{sample_tile_lane, sample_tile_lane_observed, sampling_lookup_lane};
 use rdp::answer::Answer;
+use std::io;
+use std::io::Write;
 use tmem::bank::Bank;
 
 // The call's own columns: how many lanes, and the bytes of bank, picture and trail.
@@ -17,9 +19,7 @@ const PICTURE: usize = OWN + 2;
 
 const TRAIL: usize = OWN + 3;
 
-// Room for the largest picture and the longest trail of a case.
-const PICTURE_ROOM: usize = 65536;
-
+// Room for the longest trail of a case.
 const TRAIL_ROOM: usize = 120;
 
 // An answer, and the weight of what the lanes so far left.
@@ -51,14 +51,14 @@ fn in_buffers(case: &[u8], bank: &[u8], lane: u32, before: u64) -> Told
     requires { before < 2 ^ 32 }
     ensures { result.weight < 2 ^ 32 }
 {
-    let mut out = io::large_buffer();
+    let mut out = buffers::picture();
     let mut seen = [0u8; TRAIL_ROOM];
     buffers::fill(&mut out);
     buffers::fill(&mut seen);
-    let a = line::part(case, PICTURE, PICTURE_ROOM);
+    let a = line::part(case, PICTURE, buffers::PICTURE);
     let b = line::part(case, TRAIL, TRAIL_ROOM);
-    let pixels = &mut out[0..a];
-    let trail = &mut seen[0..b];
+    let pixels = &mut out[..a];
+    let trail = &mut seen[..b];
     let answer = picture(case, bank, lane, pixels, trail);
     let weight = weight(weight(before, pixels), trail);
     Told { answer, weight }
@@ -74,14 +74,14 @@ fn lanes(case: &[u8], bank: &[u8]) -> Told {
     told
 }
 
-pub(crate) fn run(case: &[u8]) {
+pub(crate) fn run<W: Write>(output: &mut W, case: &[u8]) -> io::Result<()> {
     let fresh = Bank::fresh();
     let mut bank = fresh.bytes;
     buffers::fill(&mut bank);
     let bytes = line::part(case, BANK, Bank::SIZE);
-    let told = lanes(case, &bank[0..bytes]);
-    show::name(case);
-    show::answer(told.answer);
-    show::number(told.weight);
-    show::text(b"\n");
+    let told = lanes(case, &bank[..bytes]);
+    show::name(output, case)?;
+    show::answer(output, told.answer)?;
+    show::number(output, told.weight)?;
+    show::text(output, b"\n")
 }

@@ -9,6 +9,8 @@ use rdp::answer::YesAnswer;
 use rdp::tile::TileDescriptor;
 use reach::lane;
 use reach::rejection::rejection;
+use std::io;
+use std::io::Write;
 use tmem::bank::Bank;
 
 // The own column of `m`, and that of `w`. Those of `q`: the bytes of the reasons, and where they have 1 and 255. Those of `l`: the bytes
@@ -37,11 +39,11 @@ const LONG_REASONS: usize = Bank::REASONS_SIZE + 1;
 const LONG_LANE_MAP: usize = 32 + 1;
 
 // A refusal and a map. Every bit of the map is turned over.
-fn turned(refusal: u32, map: &mut [u8]) {
+fn turned<W: Write>(output: &mut W, refusal: u32, map: &mut [u8]) -> io::Result<()> {
     let weight = show::weight(0, 31, 65521, map);
-    show::number(refusal as u64);
-    show::number(buffers::turn_over(map) as u64);
-    show::number(weight);
+    show::number(output, refusal as u64)?;
+    show::number(output, buffers::turn_over(map) as u64)?;
+    show::number(output, weight)
 }
 
 // The bytes of a map's written record, as far as there is room.
@@ -60,83 +62,103 @@ fn has_load(tile: TileDescriptor, mode: u32, map: &[u8]) -> YesAnswer {
     let mut written = buffers::record();
     buffers::number_marked(map, &mut written);
     let bytes = record_bytes(map);
-    reach::has_load::tile_has_load(tile, mode, &written[0..bytes])
+    reach::has_load::tile_has_load(tile, mode, &written[..bytes])
 }
 
 // The reach of a tile in a map that was filled before. Then has-load's answer where just the marked bytes are written.
-fn reached(tile: TileDescriptor, mode: u32, map: &mut [u8]) {
+fn reached<W: Write>(
+    output: &mut W,
+    tile: TileDescriptor,
+    mode: u32,
+    map: &mut [u8],
+) -> io::Result<()> {
     let refusal = reach::reach::reach(tile, mode, map);
     let own = has_load(tile, mode, map);
-    turned(refusal, map);
-    show::number(own.refusal as u64);
-    show::number(own.yes as u64);
+    turned(output, refusal, map)?;
+    show::number(output, own.refusal as u64)?;
+    show::number(output, own.yes as u64)
 }
 
 // Whether the tile has a load where the bytes that a map marks are written.
-fn loaded(tile: TileDescriptor, mode: u32, map: &[u8]) {
+fn loaded<W: Write>(output: &mut W, tile: TileDescriptor, mode: u32, map: &[u8]) -> io::Result<()> {
     let answer = has_load(tile, mode, map);
-    show::number(answer.yes as u64);
+    show::number(output, answer.yes as u64)
 }
 
 // A reach in a map that had every bit set, and has-load where just the bytes that are not reached are written.
-fn reach_case(tile: TileDescriptor, mode: u32) {
+fn reach_case<W: Write>(output: &mut W, tile: TileDescriptor, mode: u32) -> io::Result<()> {
     let mut map = [255u8; 512];
-    reached(tile, mode, &mut map);
-    loaded(tile, mode, &map);
+    reached(output, tile, mode, &mut map)?;
+    loaded(output, tile, mode, &map)
 }
 
 // A reach in a map of so many bytes.
-fn length_case(case: &[u8], tile: TileDescriptor, mode: u32) {
+fn length_case<W: Write>(
+    output: &mut W,
+    case: &[u8],
+    tile: TileDescriptor,
+    mode: u32,
+) -> io::Result<()> {
     let mut map = [170u8; LONG_MAP];
     let length = line::part(case, MAP, LONG_MAP);
-    reached(tile, mode, &mut map[0..length]);
+    reached(output, tile, mode, &mut map[..length])
 }
 
 // Has-load where one byte alone is written.
-fn written_case(case: &[u8], tile: TileDescriptor, mode: u32) {
+fn written_case<W: Write>(
+    output: &mut W,
+    case: &[u8],
+    tile: TileDescriptor,
+    mode: u32,
+) -> io::Result<()> {
     let mut map = [0u8; 512];
     let at = line::number(case, WRITTEN) as usize;
     buffers::put(&mut map, at / 8, 1u8 << at % 8);
-    loaded(tile, mode, &map);
+    loaded(output, tile, mode, &map)
 }
 
 // The first reason of a tile, where two addresses have one.
-fn question_case(case: &[u8], tile: TileDescriptor, mode: u32) {
+fn question_case<W: Write>(
+    output: &mut W,
+    case: &[u8],
+    tile: TileDescriptor,
+    mode: u32,
+) -> io::Result<()> {
     let mut reasons = [0u8; LONG_REASONS];
     buffers::put(&mut reasons, line::number(case, ONE) as usize, 1);
     buffers::put(&mut reasons, line::number(case, LARGEST) as usize, 255);
     let length = line::part(case, REASONS, LONG_REASONS);
-    let answer = rejection(tile, mode, &reasons[0..length]);
-    show::number(answer.refusal as u64);
-    show::number(answer.reason as u64);
+    let answer = rejection(tile, mode, &reasons[..length]);
+    show::number(output, answer.refusal as u64)?;
+    show::number(output, answer.reason as u64)
 }
 
 // The lane map of a bank with one other byte.
-fn lanes(bank: &mut [u8], map: &mut [u8], at: usize) {
+fn lanes<W: Write>(output: &mut W, bank: &mut [u8], map: &mut [u8], at: usize) -> io::Result<()> {
     buffers::put(bank, at, 8);
-    turned(lane::palette_nonreplicated_bytes(bank, map), map);
+    turned(output, lane::palette_nonreplicated_bytes(bank, map), map)
 }
 
 // A bank of sevens and a lane map, each of so many bytes.
-fn lane_case(case: &[u8]) {
+fn lane_case<W: Write>(output: &mut W, case: &[u8]) -> io::Result<()> {
     let mut bank = buffers::sevens();
     let mut map = [170u8; LONG_LANE_MAP];
     let bytes = line::part(case, LANE_BANK, buffers::SEVENS);
     let slots = line::part(case, LANE_MAP, LONG_LANE_MAP);
     let at = line::number(case, OTHER) as usize;
-    lanes(&mut bank[0..bytes], &mut map[0..slots], at);
+    lanes(output, &mut bank[..bytes], &mut map[..slots], at)
 }
 
-pub(crate) fn run(case: &[u8]) {
+pub(crate) fn run<W: Write>(output: &mut W, case: &[u8]) -> io::Result<()> {
     let tile = line::tile(case);
     let mode = line::mode(case);
-    show::name(case);
+    show::name(output, case)?;
     match line::letter(case) {
-        b'r' => reach_case(tile, mode),
-        b'm' => length_case(case, tile, mode),
-        b'w' => written_case(case, tile, mode),
-        b'q' => question_case(case, tile, mode),
-        _ => lane_case(case),
+        b'r' => reach_case(output, tile, mode)?,
+        b'm' => length_case(output, case, tile, mode)?,
+        b'w' => written_case(output, case, tile, mode)?,
+        b'q' => question_case(output, case, tile, mode)?,
+        _ => lane_case(output, case)?,
     }
-    show::text(b"\n");
+    show::text(output, b"\n")
 }

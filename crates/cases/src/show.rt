@@ -2,36 +2,37 @@
 ghost use Rattle.std.specs.Prelude.{◌<◌, ◌≤◌, ◌^◌};
 
 use crate::line;
-use libc::STDOUT_FILENO;
 use rdp::answer::{Answer, LoadAnswer};
+use std::io;
+use std::io::Write;
 
-pub(crate) fn text(text: &[u8]) {
-    io::write_all(STDOUT_FILENO, text);
+pub(crate) fn text<W: Write>(output: &mut W, text: &[u8]) -> io::Result<()> {
+    output.write_all(text)
 }
 
-pub(crate) fn number(n: u64) {
-    text(b" ");
-    io::print_decimal(STDOUT_FILENO, n);
+pub(crate) fn number<W: Write>(output: &mut W, n: u64) -> io::Result<()> {
+    write!(output, " {n}")
 }
 
 // The name of a case.
-pub(crate) fn name(case: &[u8]) {
+pub(crate) fn name<W: Write>(output: &mut W, case: &[u8]) -> io::Result<()> {
     let end = line::name(case);
     if end <= case.len() {
-        text(&case[0..end]);
+        text(output, &case[..end])?;
     }
+    Ok(())
 }
 
-pub(crate) fn answer(answer: Answer) {
-    number(answer.refusal as u64);
-    number(answer.count as u64);
+pub(crate) fn answer<W: Write>(output: &mut W, answer: Answer) -> io::Result<()> {
+    number(output, answer.refusal as u64)?;
+    number(output, answer.count as u64)
 }
 
-pub(crate) fn load_answer(answer: LoadAnswer) {
-    number(answer.refusal as u64);
-    number(answer.count as u64);
-    number(answer.made_up as u64);
-    number(answer.number as u64);
+pub(crate) fn load_answer<W: Write>(output: &mut W, answer: LoadAnswer) -> io::Result<()> {
+    number(output, answer.refusal as u64)?;
+    number(output, answer.count as u64)?;
+    number(output, answer.made_up as u64)?;
+    number(output, answer.number as u64)
 }
 
 // One byte more of a weight.

@@ -1,15 +1,19 @@
 // Lists a capture. It reads records of 4,112 bytes from standard input to its end and writes a line for each: refusal,
 // flag, distinct kept bytes, texels. A torn tail adds `8 0 0 0`, and empty input gives nothing. A read that fails ends the
-// input. A Rattle program cannot set its exit status, so what went wrong shows in the lines and on standard error alone.
+// input: what was read is listed, and then the program ends with the error. A write that fails ends it at once.
 #![tactic(auto)]
 
-ghost use Rattle.std.specs.Prelude.{◌≡◌, ◌++◌, ◌+◌, ◌*◌, ◌/◌, ◌≤◌, length, take};
+mod reader;
+
+ghost use Rattle.std.specs.Prelude.{◌≡◌, ◌++◌, ◌+◌, ◌*◌, ◌/◌, ◌≤◌, length, take, IfOk};
 ghost use Rattle.rules.specs.Base.{over};
 ghost use Rattle.rules.specs.Lister.{record_size, line_room, listing};
 ghost use Rattle.lister.specs.Piece.{piece_size, piece_room};
 
-use libc::{STDIN_FILENO, STDOUT_FILENO};
 use listing::list::{LINE_ROOM, RECORD, list};
+use reader::PieceReader;
+use std::io;
+use std::io::{Read, Write};
 
 // What is read at a time, in records and in bytes, and the room of its lines with a torn tail's.
 const RECORDS: usize = 16;
@@ -17,6 +21,9 @@ const RECORDS: usize = 16;
 const PIECE: usize = RECORDS * RECORD;
 
 const PIECE_ROOM: usize = (RECORDS + 1) * LINE_ROOM;
+
+// The room of the text, which is written out when it is nearly full.
+const TEXT: usize = 65536;
 
 // Where the text that was not yet written out ends, and whether there is more input.
 #[derive(Clone, Copy)]
@@ -37,63 +44,68 @@ fn list_piece(piece: &[u8], text: &mut [u8], at: usize) -> usize
 }
 
 // Reads a piece of the input, or what is left of it, and lists it.
-fn list_next(input: &mut [u8], text: &mut [u8], at: usize) -> Progress
-    requires input_len { length input.old ≡ piece_size }
+fn list_next<R: Read>(
+    input: &mut PieceReader<R>,
+    piece: &mut [u8],
+    text: &mut [u8],
+    at: usize,
+) -> Progress
+    requires piece_len { length piece.old ≡ piece_size }
     requires piece_room_in_bounds { at + piece_room ≤ length text.old }
     ensures { result.end ≤ length text.old }
 {
-    let got = io::read_full(STDIN_FILENO, input);
-    let end = list_piece(&input[..got], text, at);
+    let got = input.fill(piece);
+    let end = list_piece(&piece[..got], text, at);
     Progress {
         end,
-        more: got == input.len(),
+        more: got == piece.len(),
     }
 }
 
-// Writes the first `end` bytes of the text out, and answers whether all of them were written.
-fn write_out(text: &[u8], end: usize) -> bool
+// Writes the first `end` bytes of the text out.
+fn write_out<W: Write>(output: &mut W, text: &[u8], end: usize) -> io::Result<()>
     requires { end ≤ length text.now }
 {
-    let is_written = io::write_all(STDOUT_FILENO, &text[..end]);
-    if !is_written {
-        os::fail(b"write");
-    }
-    is_written
+    output.write_all(&text[..end])
 }
 
 // Writes the text out once the lines of a piece may find no room after it.
-fn write_full(text: &[u8], step: Progress) -> Progress
+fn write_full<W: Write>(output: &mut W, text: &[u8], step: Progress) -> io::Result<Progress>
     requires { (step.end ≤ length text.now) × (piece_room ≤ length text.now) }
-    ensures { result.end + piece_room ≤ length text.now }
+    ensures { IfOk result (λ kept. kept.end + piece_room ≤ length text.now) }
 {
     let end = step.end;
     if text.len() - end < PIECE_ROOM {
-        let is_written = write_out(text, end);
-        return Progress {
+        write_out(output, text, end)?;
+        return Ok(Progress {
             end: 0,
-            more: step.more & is_written,
-        };
+            more: step.more,
+        });
     }
-    step
+    Ok(step)
 }
 
-// A proved loop has to end, and nothing says that an input does. So the loop counts its turns down, from a number that no
-// run uses up.
-fn list_all(input: &mut [u8], text: &mut [u8])
-    requires input_len { length input.old ≡ piece_size }
+// Lists the whole input. A proved loop has to end, and nothing says that an input does. So the loop counts its turns, up to a number
+// that no run reaches.
+fn list_all<R: Read, W: Write>(
+    input: &mut PieceReader<R>,
+    output: &mut W,
+    piece: &mut [u8],
+    text: &mut [u8],
+) -> io::Result<()>
+    requires piece_len { length piece.old ≡ piece_size }
     requires piece_room_in_bounds { piece_room ≤ length text.old }
 {
     let mut end = 0;
-    let mut more = true;
-    let mut turns = u64::MAX;
-    while more & (0 < turns) {
-        let step = list_next(input, text, end);
-        let kept = write_full(text, step);
+    for _ in 0..u64::MAX {
+        let step = list_next(input, piece, text, end);
+        let kept = write_full(output, text, step)?;
         end = kept.end;
-        more = kept.more;
-        turns -= 1;
+        if !kept.more {
+            break;
+        }
     }
-    write_out(text, end);
+    write_out(output, text, end)
 }
 
 // Room for a piece of the input.
@@ -103,8 +115,17 @@ fn piece_buffer() -> [u8; PIECE]
     [0u8; PIECE]
 }
 
-fn main() {
-    let mut input = piece_buffer();
-    let mut text = io::large_buffer();
-    list_all(&mut input, &mut text);
+// Room for the text.
+fn text_buffer() -> [u8; TEXT]
+    ensures { length result ≡ 65536 }
+{
+    [0u8; TEXT]
+}
+
+fn main(rt: HostRuntime) -> io::Result<()> {
+    let mut input = PieceReader::new(rt.stdin());
+    let mut piece = piece_buffer();
+    let mut text = text_buffer();
+    list_all(&mut input, &mut rt.stdout(), &mut piece, &mut text)?;
+    input.finish()
 }

@@ -27,7 +27,15 @@ module _ (a b : List ℕ) (whole : length a % record_size ≡ 0) where
   texts : (m : ℕ) → record_texts (a ++ b) (count + m) ≡ record_texts a count ++ record_texts b m
   texts m =
       let e : length a ≡ count * record_size = omega arith in
-      rw (texts_of (a ++ b) (count + m), records_append record_size count a b e m, map-append, concat-append, texts_of a count, texts_of b m)
+      rw (
+        texts_of (a ++ b) (count + m),
+        records_append record_size count a b e m,
+        map-append,
+        concat-append,
+        texts_of a count,
+        texts_of b
+            m,
+      )
 
   -- the text of a piece of whole records and of what follows it
   listing-cut : listing (a ++ b) ≡ listing a ++ listing b

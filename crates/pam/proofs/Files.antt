@@ -68,7 +68,8 @@ pub size_small : (w h : ℕ) → Within w h → pam_size w h ≤ header_most + 4
 size_small w h s = omega (arith, header_short w h, mul-le-mul s.width s.height)
 
 -- the call where nothing is refused: the count of the file's bytes, and the file
-pub file_written : (w h : ℕ) (picture file : List ℕ) {n : ℕ} {xs : List ℕ} → first (pam_write_tests w h picture file) ≡ 0 → n ≡ pam_size w h
+pub file_written : (w h : ℕ) (picture file : List ℕ) {n : ℕ} {xs : List ℕ} → first (pam_write_tests w h picture file) ≡ 0 → n ≡ pam_size w
+    h
     → xs ≡ over (pam_header w h ++ take (texel_bytes w h) picture) file
     → record { refusal = 0; numbers = n ∷ []; buffers = xs ∷ [] } ≡ pam_write_call w h picture file
 unfolding pam_write_call pam_file

@@ -22,7 +22,8 @@ use Rattle.reach.specs.Words.{ors, low_words, twin, word_joined, word_meets}
 use Rattle.reach.proofs.Words.{word_marks, word_any}
 use Rattle.reach.specs.declared.span.Span.{Span}
 use Rattle.reach.specs.Span.{Bounds, words_of, bytes_of, step_of, places_in, reached_at, reached, in_halves}
-use Rattle.reach.specs.Span.{low_half, both_halves, row_span, word_count, word_in, places_of, byte_of, bits_in, place_reached, word_reached}
+use Rattle.reach.specs.Span.{low_half, both_halves, row_span, word_count, word_in, places_of, byte_of, bits_in, place_reached}
+use Rattle.reach.specs.Span.{word_reached}
 use Rattle.reach.proofs.Axes.{row_bytes-le}
 
 -- the swap of halves stays in its word

@@ -2,17 +2,24 @@
 // line for each: its refusal, and the count of its stores, or for a key of its kept bytes. After the 65,535th load each further one
 // gives `18 0`, and keys go on. A torn tail gives `8 0`, and empty input nothing. A load takes its bytes from the companion file, of
 // which a piece is held at a time. Where that file cannot be used, a sentence on standard error says so, and no line is written. Where
-// a read of it falls short of its length, a sentence says so after the lines of the records before, and that is the end. A read of the
-// records that fails ends the input. A Rattle program cannot set its exit status, so what went wrong shows in the lines and on standard
-// error alone.
+// it is shorter than its length, a sentence says so after the lines of the records before, and that is the end. A read that fails ends
+// the input: the lines of what was read are written, and then the program ends with the error. A write that fails ends it at once.
 #![tactic(auto)]
 
-ghost use Rattle.std.specs.Prelude.{◌≡◌, ◌+◌, ◌≤◌, length};
+mod companion;
+mod reader;
+
+ghost use Rattle.std.specs.Prelude.{◌≡◌, ◌+◌, ◌≤◌, length, IfOk};
 ghost use Rattle.replay.specs.Piece.{piece_size, piece_room};
 
-use libc::{SEEK_END, SEEK_SET, STDERR_FILENO, STDIN_FILENO, STDOUT_FILENO};
+use companion::Companion;
+use reader::PieceReader;
 use record::numbers::four_at;
 use replaying::run::{LENGTH_AT, LINE_ROOM, OFFSET_AT, RECORD, replay_run};
+use std::fs::File;
+use std::io::{Read, Seek, Write};
+use std::rt::Files;
+use std::{env, io};
 use tmem::bank::Bank;
 
 // The records that are read at a time, their bytes, and the room of their lines.
@@ -21,6 +28,11 @@ const RECORDS: usize = 1365;
 const PIECE: usize = RECORDS * RECORD;
 
 const PIECE_ROOM: usize = RECORDS * LINE_ROOM;
+
+// The room of the text, which is written out when it is nearly full, and of the bytes of the companion file that are held.
+const TEXT: usize = 65536;
+
+const HELD: usize = 65536;
 
 // The bytes of the companion file that are held at least, if it has them: the next records often name those after a part.
 const AHEAD: usize = 4096;
@@ -91,36 +103,25 @@ fn replay_held(
     }
 }
 
-// Writes the first `end` bytes of the text out, and answers whether all of them were written.
-fn write_out(text: &[u8], end: usize) -> bool
+// Writes the first `end` bytes of the text out.
+fn write_out<W: Write>(output: &mut W, text: &[u8], end: usize) -> io::Result<()>
     requires { end ≤ length text.now }
 {
-    let is_written = io::write_all(STDOUT_FILENO, &text[..end]);
-    if !is_written {
-        os::fail(b"write");
-    }
-    is_written
+    output.write_all(&text[..end])
 }
 
 // Writes the text out once the lines of a piece may find no room after it.
-fn write_full(text: &[u8], step: Progress) -> Progress
+fn write_full<W: Write>(output: &mut W, text: &[u8], step: Progress) -> io::Result<Progress>
     requires { (step.end ≤ length text.now) × (piece_room ≤ length text.now) }
-    ensures piece_room_in_bounds { result.end + piece_room ≤ length text.now }
-    ensures at_value { (result.at ≡ step.at) × (result.size ≡ step.size) }
+    ensures piece_room_in_bounds { IfOk result (λ kept. kept.end + piece_room ≤ length text.now) }
+    ensures at_value { IfOk result (λ kept. (kept.at ≡ step.at) × (kept.size ≡ step.size)) }
 {
     let end = step.end;
     if text.len() - end < PIECE_ROOM {
-        let is_written = write_out(text, end);
-        return Progress {
-            at: step.at,
-            start: step.start,
-            size: step.size,
-            end: 0,
-            more: step.more & is_written,
-            last: step.last,
-        };
+        write_out(output, text, end)?;
+        return Ok(Progress { end: 0, ..step });
     }
-    step
+    Ok(step)
 }
 
 // How many bytes to hold for a record: its stated part, or more, but no more than find room.
@@ -152,17 +153,13 @@ fn size_from(file_end: u64, offset: u64, most: usize) -> usize
     }
 }
 
-// Reads the companion file from an offset on, and answers whether all of `bytes` was filled.
-fn read_from(fd: i32, offset: u32, bytes: &mut [u8]) -> bool {
-    let at = libc::lseek(fd, offset as i64, SEEK_SET);
-    if at != offset as i64 {
-        return false;
-    }
-    io::read_full(fd, bytes) == bytes.len()
-}
-
 // Holds the bytes of the companion file from the offset of the next record on, if one is left.
-fn hold_next(fd: i32, file_end: u64, records: &[u8], held: &mut [u8], step: Progress) -> Progress
+fn hold_next<F: Read + Seek>(
+    companion: &mut Companion<F>,
+    records: &[u8],
+    held: &mut [u8],
+    step: Progress,
+) -> Progress
     requires at_in_bounds { step.at ≤ length records.now }
     requires size_in_bounds { step.size ≤ length held.old }
     ensures { (result.at ≡ step.at) × (result.end ≡ step.end) × (result.size ≤ length held.old) }
@@ -170,31 +167,23 @@ fn hold_next(fd: i32, file_end: u64, records: &[u8], held: &mut [u8], step: Prog
     if step.at == records.len() {
         return step;
     }
-    let at = step.at;
-    let offset = four_at(&records[at..], OFFSET_AT);
-    let stated = four_at(&records[at..], LENGTH_AT);
-    let size = size_from(file_end, offset as u64, wanted(stated, held.len()));
-    let is_read = read_from(fd, offset, &mut held[..size]);
-    if !is_read {
-        io::write_all(
-            STDERR_FILENO,
-            b"replay: the companion file is shorter than it was\n",
-        );
-    }
+    let next = &records[step.at..];
+    let offset = four_at(next, OFFSET_AT);
+    let stated = four_at(next, LENGTH_AT);
+    let size = size_from(companion.end, offset as u64, wanted(stated, held.len()));
+    let is_read = companion.read_from(offset, &mut held[..size]);
     Progress {
-        at,
         start: offset as u64,
         size,
-        end: step.end,
         more: step.more & is_read,
-        last: step.last,
+        ..step
     }
 }
 
 // A turn: the records whose part is held are replayed, and the part of the next is held.
-fn replay_turn(
-    fd: i32,
-    file_end: u64,
+fn replay_turn<F: Read + Seek, W: Write>(
+    companion: &mut Companion<F>,
+    output: &mut W,
     bank: &mut [u8],
     written: &mut [u8],
     reasons: &mut [u8],
@@ -202,13 +191,13 @@ fn replay_turn(
     held: &mut [u8],
     text: &mut [u8],
     step: Progress,
-) -> Progress
+) -> io::Result<Progress>
     requires at_in_bounds { step.at ≤ length records.now }
     requires size_in_bounds { step.size ≤ length held.old }
     requires piece_room_in_bounds { step.end + piece_room ≤ length text.old }
-    ensures at_in_bounds_2 { result.at ≤ length records.now }
-    ensures size_in_bounds_2 { result.size ≤ length held.old }
-    ensures piece_room_in_bounds_2 { result.end + piece_room ≤ length text.old }
+    ensures at_in_bounds_2 { IfOk result (λ next. next.at ≤ length records.now) }
+    ensures size_in_bounds_2 { IfOk result (λ next. next.size ≤ length held.old) }
+    ensures piece_room_in_bounds_2 { IfOk result (λ next. next.end + piece_room ≤ length text.old) }
 {
     let at = step.at;
     let size = step.size;
@@ -217,7 +206,7 @@ fn replay_turn(
         written,
         reasons,
         &records[at..],
-        file_end,
+        companion.end,
         step.start,
         &held[..size],
         text,
@@ -226,20 +215,19 @@ fn replay_turn(
     );
     let done = Progress {
         at: at + turn.done,
-        start: step.start,
-        size,
         end: turn.end,
-        more: step.more,
         last: turn.last,
+        ..step
     };
-    hold_next(fd, file_end, records, held, write_full(text, done))
+    let kept = write_full(output, text, done)?;
+    Ok(hold_next(companion, records, held, kept))
 }
 
 // Replays a piece of the records, turn by turn. A proved loop has to end, and nothing says that reads of a file bring the next record
-// its part. So the loop counts its turns down, from a number that no run uses up.
-fn replay_piece(
-    fd: i32,
-    file_end: u64,
+// its part. So the loop counts its turns, up to a number that no run reaches.
+fn replay_piece<F: Read + Seek, W: Write>(
+    companion: &mut Companion<F>,
+    output: &mut W,
     bank: &mut [u8],
     written: &mut [u8],
     reasons: &mut [u8],
@@ -247,56 +235,53 @@ fn replay_piece(
     held: &mut [u8],
     text: &mut [u8],
     step: Progress,
-) -> Progress
+) -> io::Result<Progress>
     requires at_in_bounds { step.at ≤ length records.now }
     requires size_in_bounds { step.size ≤ length held.old }
     requires piece_room_in_bounds { step.end + piece_room ≤ length text.old }
-    ensures size_in_bounds_2 { result.size ≤ length held.old }
-    ensures piece_room_in_bounds_2 { result.end + piece_room ≤ length text.old }
+    ensures size_in_bounds_2 { IfOk result (λ done. done.size ≤ length held.old) }
+    ensures piece_room_in_bounds_2 { IfOk result (λ done. done.end + piece_room ≤ length text.old) }
 {
     let mut now = step;
-    let mut turns = u64::MAX;
-    while (now.at < records.len()) & now.more & (0 < turns) {
+    for _ in 0..u64::MAX {
+        if now.at == records.len() || !now.more {
+            break;
+        }
         now = replay_turn(
-            fd, file_end, bank, written, reasons, records, held, text, now,
-        );
-        turns -= 1;
+            companion, output, bank, written, reasons, records, held, text, now,
+        )?;
     }
-    now
+    Ok(now)
 }
 
 // Replays all records, a piece of them at a time, and writes the rest of the text out.
-fn replay_all(
-    fd: i32,
-    file_end: u64,
+fn replay_all<R: Read, F: Read + Seek, W: Write>(
+    input: &mut PieceReader<R>,
+    companion: &mut Companion<F>,
+    output: &mut W,
     bank: &mut [u8],
     written: &mut [u8],
     reasons: &mut [u8],
     records: &mut [u8],
     held: &mut [u8],
     text: &mut [u8],
-)
+) -> io::Result<()>
     requires { piece_room ≤ length text.old }
 {
-    let mut start = 0u64;
-    let mut size = 0;
-    let mut end = 0;
-    let mut more = true;
-    let mut last = 0u32;
-    let mut turns = u64::MAX;
-    while more & (0 < turns) {
-        let got = io::read_full(STDIN_FILENO, records);
-        let begun = Progress {
-            at: 0,
-            start,
-            size,
-            end,
-            more,
-            last,
-        };
-        let done = replay_piece(
-            fd,
-            file_end,
+    let mut now = Progress {
+        at: 0,
+        start: 0,
+        size: 0,
+        end: 0,
+        more: true,
+        last: 0,
+    };
+    for _ in 0..u64::MAX {
+        let got = input.fill(records);
+        let begun = Progress { at: 0, ..now };
+        now = replay_piece(
+            companion,
+            output,
             bank,
             written,
             reasons,
@@ -304,15 +289,12 @@ fn replay_all(
             held,
             text,
             begun,
-        );
-        start = done.start;
-        size = done.size;
-        end = done.end;
-        more = done.more & (got == records.len());
-        last = done.last;
-        turns -= 1;
+        )?;
+        if !now.more || got < records.len() {
+            break;
+        }
     }
-    write_out(text, end);
+    write_out(output, text, now.end)
 }
 
 // Room for a piece of the records.
@@ -322,67 +304,74 @@ fn piece_buffer() -> [u8; PIECE]
     [0u8; PIECE]
 }
 
-// A length that `lseek` answered.
-fn length_of(end: i64) -> u64 {
-    if end < 0 { 0 } else { end as u64 }
+// Room for the text.
+fn text_buffer() -> [u8; TEXT]
+    ensures { length result ≡ 65536 }
+{
+    [0u8; TEXT]
+}
+
+// The system's words for an error, without its number.
+fn words_of(error: &str) -> &str {
+    match error.split_once(" (os error ") {
+        Some((words, _)) => words,
+        None => error,
+    }
 }
 
 // Says on standard error why the companion file cannot be used.
-fn say_unusable(path: &[u8]) {
-    io::write_all(STDERR_FILENO, b"replay: the companion file ");
-    os::fail(path);
+fn say_unusable(rt: &(impl Eprint + Alloc), path: &str, error: io::Error) -> io::Result<()> {
+    let error = error.to_string(rt.alloc())?;
+    let words = words_of(error.as_str());
+    eprintln!(rt; "replay: the companion file {path}: {words}")
 }
 
-// Replays with a companion file that is open. A file without a length, such as a pipe, or that cannot be read, such as a folder,
-// is none. A record has no reason, so the reasons stay zero.
-fn replay_with(fd: i32, path: &[u8]) {
-    let file_end = libc::lseek(fd, 0, SEEK_END);
-    if file_end < 0 {
-        say_unusable(path);
-        return;
-    }
-    let mut held = io::large_buffer();
-    if libc::read(fd, &mut held) < 0 {
-        say_unusable(path);
-        return;
-    }
+// Replays with a companion file that is open. A record has no reason, so the reasons stay zero.
+fn replay_with<F: Read + Seek + Drop>(
+    rt: &(impl Input + Print + Eprint),
+    mut companion: Companion<F>,
+    held: &mut [u8],
+) -> io::Result<()> {
     let fresh = Bank::fresh();
     let mut bank = fresh.bytes;
     let mut written = [0u8; Bank::WRITTEN_SIZE];
     let mut reasons = [0u8; Bank::REASONS_SIZE];
     let mut records = piece_buffer();
-    let mut text = io::large_buffer();
-    replay_all(
-        fd,
-        length_of(file_end),
+    let mut text = text_buffer();
+    let mut input = PieceReader::new(rt.reader());
+    let done = replay_all(
+        &mut input,
+        &mut companion,
+        &mut io::writer(rt),
         &mut bank,
         &mut written,
         &mut reasons,
         &mut records,
-        &mut held,
+        held,
         &mut text,
     );
+    companion.finish(rt)?;
+    done?;
+    input.finish()
 }
 
-fn main() {
-    if os::arg_count() != 2 {
-        io::write_all(
-            STDERR_FILENO,
-            b"replay: name the companion file: replay COMPANION < RECORDS\n",
-        );
-        return;
+// Opens the companion file, and replays with it.
+fn replay(rt: &(impl Files + Input + Print + Eprint + Alloc), path: &str) -> io::Result<()> {
+    let mut held = [0u8; HELD];
+    let opened = match File::open(rt, path) {
+        Ok(file) => Companion::new(file, &mut held),
+        Err(error) => Err(error),
+    };
+    match opened {
+        Ok(companion) => replay_with(rt, companion, &mut held),
+        Err(error) => say_unusable(rt, path, error),
     }
-    let mut path = io::buffer();
-    let size = os::arg(1, &mut path);
-    if os::errno() != 0 {
-        os::fail(b"replay: the companion file's name");
-        return;
+}
+
+fn main(rt: HostRuntime) -> io::Result<()> {
+    let mut args = env::args(&rt)?.skip(1);
+    match (args.next(), args.next()) {
+        (Some(path), None) => replay(&rt, path.as_str()),
+        _ => eprintln!(rt; "replay: name the companion file: replay COMPANION < RECORDS"),
     }
-    let fd = os::open_read(&path[..size]);
-    if fd < 0 {
-        say_unusable(&path[..size]);
-        return;
-    }
-    replay_with(fd, &path[..size]);
-    libc::close(fd);
 }

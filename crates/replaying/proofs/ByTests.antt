@@ -22,7 +22,8 @@ module _ (end : ℕ) (r : List ℕ) where
 
     last : n ≡ 0 → first (load_tests_in end r) ≡ first (beyond end r ∷ [])
     last z =
-        first-after (number_tests (size_in r) (tile_in r) (image_in r) (outside_in r) []) (beyond end r ∷ []) (numbered _ refl) (sym is ∙ z)
+        first-after (number_tests (size_in r) (tile_in r) (image_in r) (outside_in r) []) (beyond end r ∷ []) (numbered _ refl)
+        (sym is ∙ z)
 
     pub by_end : n ≡ 0 → end < offset_in r + size_in r → 11 ≡ first (load_tests_in end r)
     unfolding first

@@ -52,7 +52,8 @@ unfolding ready
 ready_ahead p [] i h = absurd (omega arith)
 ready_ahead p (r ∷ l) i h = go (at_hand p r) refl i h (ready_ahead p l)
   where
-    go : (b : Bool) → at_hand p r ≡ b → (i : ℕ) → i < cond b (suc (ready p l)) 0 → ((j : ℕ) → j < ready p l → at_hand p (get_or l j []) ≡ true)
+    go : (b : Bool) → at_hand p r ≡ b → (i : ℕ) → i < cond b (suc (ready p l)) 0 →
+        ((j : ℕ) → j < ready p l → at_hand p (get_or l j []) ≡ true)
         → at_hand p (get_or (r ∷ l) i []) ≡ true
     go false e i k ih = absurd (omega arith)
     go true e zero k ih = e

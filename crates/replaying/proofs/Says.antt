@@ -26,7 +26,8 @@ module _ (r : List ℕ) where
     says-tile words k w =
         (rw (e, s, w, ne_eqb _ _ not_block, eq-eqb _ _ k), rw (e, s, w, ne_eqb _ _ not_block, eq-eqb _ _ k))
 
-    pub says-tlut : (image count : ℕ) → (kind_in r ≡ 1 → ⊥) → image ≡ image_in r → count ≡ count_in r → Says r (picked image count rows stride)
+    pub says-tlut : (image count : ℕ) → (kind_in r ≡ 1 → ⊥) → image ≡ image_in r → count ≡ count_in r → Says r
+        (picked image count rows stride)
     unfolding outside_in stores_in
     says-tlut image count k m n =
         rw (e, s, m, n, ne_eqb _ _ not_block, ne_eqb _ _ k)

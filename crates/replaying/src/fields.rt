@@ -1,7 +1,8 @@
 // What a replay's record says: its kind, its tile, what its load is asked for, and the part of the companion file that it names.
 ghost use Rattle.std.specs.Prelude.{◌≡◌, ◌^◌, ◌<◌, ◌≤◌, length};
 ghost use Rattle.rules.specs.Load.{load_tile};
-ghost use Rattle.rules.specs.Replay.{replay_size, kind_in, lane_in, tile_in, mode_in, image_in, offset_in, size_in, asks_key, stores_in, outside_in};
+ghost use Rattle.rules.specs.Replay.{replay_size, kind_in, lane_in, tile_in, mode_in, image_in, offset_in, size_in, asks_key, stores_in};
+ghost use Rattle.rules.specs.Replay.{outside_in};
 ghost use Rattle.rdp.specs.View.{tile_of};
 ghost use Rattle.tmem.specs.Asked.{asked_outside, asked_stores};
 

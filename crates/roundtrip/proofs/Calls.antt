@@ -17,7 +17,8 @@ use Rattle.rules.specs.Load.{Store, Reason, reason_outside, load_tile, stored, f
 use Rattle.rules.specs.Picture.{plain}
 use Rattle.rules.specs.Linear.{linear, linear_row}
 use Rattle.rules.specs.Refusal.{first, call_or, call}
-use Rattle.rules.specs.Calls.{load_tests, tile_load_outside, tile_call, left_by, plain_texels, picture_tests, picture_call, sample_tile_call}
+use Rattle.rules.specs.Calls.{load_tests, tile_load_outside, tile_call, left_by, plain_texels, picture_tests, picture_call}
+use Rattle.rules.specs.Calls.{sample_tile_call}
 use Rattle.rules.specs.Calls.{linear_tests, linear_call}
 use Rattle.rules.proofs.Formats.{accepted-direct}
 use Rattle.rules.proofs.Loads.{length-stored}

@@ -28,9 +28,11 @@ fits_rgba32 = record { pair = refl; height_in = omega arith; row_fits = omega ar
 abbrev small : Tile
 small = tile 4 1 1 0 4 2
 
-computed : given (plain small 0 0) (stored (1 ∷ 2 ∷ 3 ∷ 4 ∷ 5 ∷ []) (tile_stores (load_tile small) 1 2 (row_words small) 3) (replicate 4096 9))
+computed : given (plain small 0 0) (stored (1 ∷ 2 ∷ 3 ∷ 4 ∷ 5 ∷ []) (tile_stores (load_tile small) 1 2 (row_words small) 3)
+    (replicate 4096 9))
     ≡ 1 ∷ 1 ∷ 1 ∷ 1 ∷ 2 ∷ 2 ∷ 2 ∷ 2 ∷ 3 ∷ 3 ∷ 3 ∷ 3 ∷ 4 ∷ 4 ∷ 4 ∷ 4 ∷ 4 ∷ 4 ∷ 4 ∷ 4 ∷ 5 ∷ 5 ∷ 5 ∷ 5 ∷ 0 ∷ 0 ∷ 0 ∷ 0 ∷ 0 ∷ 0 ∷ 0 ∷ 0 ∷ []
-unfolding given and_then prepend up_to plain plain_row texel direct format_of stored tile_stores tile_row word_stores whole_stores split_stores list4
+unfolding given and_then prepend up_to plain plain_row texel direct format_of stored tile_stores tile_row word_stores whole_stores
+    split_stores list4
     tab tab_from concat
 computed = refl
 

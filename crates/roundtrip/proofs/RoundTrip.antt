@@ -82,7 +82,8 @@ read_at m tmem line y q r h e k =
     let e' : r ≡ y * (8 * line) + q = rw z at e in
     let a : r / 8 ≡ line * y + q / 8 = omega arith in
     let b : r % 8 ≡ q % 8 = omega arith in
-    let s : 8 * tmem + swap_odd (odd y) r ≡ 8 * (tmem + line * y + q / 8) + (q % 8 + y % 2 * 4) % 8 = rw (swapped y r, a, b) (omega arith) in
+    let s : 8 * tmem + swap_odd (odd y) r ≡ 8 * (tmem + line * y + q / 8) + (q % 8 + y % 2 * 4) % 8 = rw (swapped y r, a, b) (omega arith)
+    in
     rw s (mod-eq_of_lt (omega arith))
 
 -- byte e of a half of texel x of row y

@@ -148,7 +148,8 @@ module _ (src : List ℕ) (t : LoadTile) (image rows words stride : ℕ) (c : Sp
       record {
         half_is = sym (c.half_is w ∙ omega arith);
         first_is =
-            sym (first_word (4 * base (image_tile image t) row + 2 * w) (half_goes row w) (rw z (omega arith)) (omega arith) (omega arith));
+            sym (first_word (4 * base (image_tile image t) row + 2 * w) (half_goes row w) (rw z (omega arith)) (omega arith)
+            (omega arith));
         odd_is = refl;
       }
 
@@ -185,7 +186,8 @@ module _ (src : List ℕ) (t : LoadTile) (image rows words stride : ℕ) (c : Sp
     half_sets : Sets src there_half what_half (word t image stride y (x / 2))
     half_sets =
         rw (← split_word (half_found y (x / 2) y_in x_in) (λ k. y * stride + 8 * (x / 2) + k) c.both_halves, split_start (x / 2) y)
-        (split_sets src there_half what_half (image_tile image t) (half_goes y (x / 2)) (x / 2) y (λ k. y * stride + 8 * (x / 2) + k) split_in
+        (split_sets src there_half what_half (image_tile image t) (half_goes y (x / 2)) (x / 2) y (λ k. y * stride + 8 * (x / 2) + k)
+        split_in
         (half_within y (x / 2) y_in x_in) c.rgba (split_only y (x / 2) y_in x_in)
         (2 * (x % 2) + e) z (omega arith) z_in (omega (arith, halves_meet x y e e_in)))
 

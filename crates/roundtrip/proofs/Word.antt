@@ -131,47 +131,48 @@ split_at_lem v w row i h m = rw (place_at v row ((w + row) % 2 * 2 + i / 2) (ome
 
 module _ (src : List ℕ) (a x : ℕ) (t : LoadTile) (v w row : ℕ) (from : ℕ → ℕ) (in_bank : a < 4096) (word_in : v < 256)
     (rgba : eqb t.fmt 1 ≡ false)
-    (only : (i z : ℕ) → i < 4 → z < 2 → 8 * v + (w + row) % 2 * 4 + i + 2048 * z ≡ a → get_or src (from (i + i / 2 * 2 + 2 * z)) 0 ≡ x) where
-  low_store : ℕ → Store
-  low_store i = store (split_at (list4 (4 * v) (row % 2 * 2)) ((w + row) % 2 * 2) i) (from (get_or (low_bytes t) i 0))
+    (only : (i z : ℕ) → i < 4 → z < 2 → 8 * v + (w + row) % 2 * 4 + i + 2048 * z ≡ a → get_or src (from (i + i / 2 * 2 + 2 * z)) 0 ≡ x)
+  where
+    low_store : ℕ → Store
+    low_store i = store (split_at (list4 (4 * v) (row % 2 * 2)) ((w + row) % 2 * 2) i) (from (get_or (low_bytes t) i 0))
 
-  high_store : ℕ → Store
-  high_store i = store (split_at (list4 (4 * v) (row % 2 * 2)) ((w + row) % 2 * 2) i + 2048) (from (get_or (high_bytes t) i 0))
+    high_store : ℕ → Store
+    high_store i = store (split_at (list4 (4 * v) (row % 2 * 2)) ((w + row) % 2 * 2) i + 2048) (from (get_or (high_bytes t) i 0))
 
-  low_right : (i : ℕ) → i < 4 → (low_store i).at ≡ a → get_or src (low_store i).from 0 ≡ x
-  unfolding low_store
-  low_right i m e =
-      let p : get_or (low_bytes t) i 0 ≡ i + i / 2 * 2 + 2 * 0 =
-      rw rgba (agree_below 4 (λ i. get_or (0 ∷ 1 ∷ 4 ∷ 5 ∷ []) i 0) (λ i. i + i / 2 * 2 + 2 * 0) tt i m) in
-      rw p (only i 0 m (omega arith) (omega (arith, split_at_lem v w row i word_in m)))
+    low_right : (i : ℕ) → i < 4 → (low_store i).at ≡ a → get_or src (low_store i).from 0 ≡ x
+    unfolding low_store
+    low_right i m e =
+        let p : get_or (low_bytes t) i 0 ≡ i + i / 2 * 2 + 2 * 0 =
+        rw rgba (agree_below 4 (λ i. get_or (0 ∷ 1 ∷ 4 ∷ 5 ∷ []) i 0) (λ i. i + i / 2 * 2 + 2 * 0) tt i m) in
+        rw p (only i 0 m (omega arith) (omega (arith, split_at_lem v w row i word_in m)))
 
-  high_right : (i : ℕ) → i < 4 → (high_store i).at ≡ a → get_or src (high_store i).from 0 ≡ x
-  unfolding high_store
-  high_right i m e =
-      let p : get_or (high_bytes t) i 0 ≡ i + i / 2 * 2 + 2 * 1 =
-      rw rgba (agree_below 4 (λ i. get_or (2 ∷ 3 ∷ 6 ∷ 7 ∷ []) i 0) (λ i. i + i / 2 * 2 + 2 * 1) tt i m) in
-      rw p (only i 1 m (omega arith) (omega (arith, split_at_lem v w row i word_in m)))
+    high_right : (i : ℕ) → i < 4 → (high_store i).at ≡ a → get_or src (high_store i).from 0 ≡ x
+    unfolding high_store
+    high_right i m e =
+        let p : get_or (high_bytes t) i 0 ≡ i + i / 2 * 2 + 2 * 1 =
+        rw rgba (agree_below 4 (λ i. get_or (2 ∷ 3 ∷ 6 ∷ 7 ∷ []) i 0) (λ i. i + i / 2 * 2 + 2 * 1) tt i m) in
+        rw p (only i 1 m (omega arith) (omega (arith, split_at_lem v w row i word_in m)))
 
-  both_keep : (i : ℕ) → i < 4 → Keeps src a x (low_store i ∷ high_store i ∷ [])
-  both_keep i m = keeps_one (low_store i) in_bank (low_right i m) (keeps_one (high_store i) in_bank (high_right i m) keeps_none)
+    both_keep : (i : ℕ) → i < 4 → Keeps src a x (low_store i ∷ high_store i ∷ [])
+    both_keep i m = keeps_one (low_store i) in_bank (low_right i m) (keeps_one (high_store i) in_bank (high_right i m) keeps_none)
 
-  pub split_keeps : Keeps src a x (split_stores t (list4 (4 * v) (row % 2 * 2)) ((w + row) % 2 * 2) from)
-  unfolding split_stores low_store high_store
-  split_keeps = keeps_table 4 _ both_keep
+    pub split_keeps : Keeps src a x (split_stores t (list4 (4 * v) (row % 2 * 2)) ((w + row) % 2 * 2) from)
+    unfolding split_stores low_store high_store
+    split_keeps = keeps_table 4 _ both_keep
 
-  both_set : (i z : ℕ) → i < 4 → z < 2 → 8 * v + (w + row) % 2 * 4 + i + 2048 * z ≡ a → Sets src a x (low_store i ∷ high_store i ∷ [])
-  unfolding low_store high_store
-  both_set i z m n e = go (ℕ_discrete z 0)
-    where
-      go : Dec (z ≡ 0) → Sets src a x (low_store i ∷ high_store i ∷ [])
-      go (yes o) =
-          let at : (low_store i).at ≡ a = omega (arith, split_at_lem v w row i word_in m) in
-          sets_here (low_store i) in_bank at (low_right i m at) (keeps_one (high_store i) in_bank (high_right i m) keeps_none)
-      go (no o) =
-          let at : (high_store i).at ≡ a = omega (arith, split_at_lem v w row i word_in m) in
-          sets_later (low_store i) (sets_here (high_store i) in_bank at (high_right i m at) keeps_none)
+    both_set : (i z : ℕ) → i < 4 → z < 2 → 8 * v + (w + row) % 2 * 4 + i + 2048 * z ≡ a → Sets src a x (low_store i ∷ high_store i ∷ [])
+    unfolding low_store high_store
+    both_set i z m n e = go (ℕ_discrete z 0)
+      where
+        go : Dec (z ≡ 0) → Sets src a x (low_store i ∷ high_store i ∷ [])
+        go (yes o) =
+            let at : (low_store i).at ≡ a = omega (arith, split_at_lem v w row i word_in m) in
+            sets_here (low_store i) in_bank at (low_right i m at) (keeps_one (high_store i) in_bank (high_right i m) keeps_none)
+        go (no o) =
+            let at : (high_store i).at ≡ a = omega (arith, split_at_lem v w row i word_in m) in
+            sets_later (low_store i) (sets_here (high_store i) in_bank at (high_right i m at) keeps_none)
 
-  pub split_sets : (i z : ℕ) → i < 4 → z < 2 → 8 * v + (w + row) % 2 * 4 + i + 2048 * z ≡ a
-      → Sets src a x (split_stores t (list4 (4 * v) (row % 2 * 2)) ((w + row) % 2 * 2) from)
-  unfolding split_stores low_store high_store
-  split_sets i z m n e = sets_table 4 _ i m (both_set i z m n e) both_keep
+    pub split_sets : (i z : ℕ) → i < 4 → z < 2 → 8 * v + (w + row) % 2 * 4 + i + 2048 * z ≡ a
+        → Sets src a x (split_stores t (list4 (4 * v) (row % 2 * 2)) ((w + row) % 2 * 2) from)
+    unfolding split_stores low_store high_store
+    split_sets i z m n e = sets_table 4 _ i m (both_set i z m n e) both_keep

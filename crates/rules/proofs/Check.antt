@@ -125,8 +125,8 @@ module _ (is_kept : Bool) (in_bank in_offer : ℕ) where
       back m = rw (m.0, ne_eqb _ _ m.1)
 
   -- there is no fourth
-  three : (wrong_kind is_kept in_bank in_offer ≡ 1)
-      ⊎ ((wrong_kind is_kept in_bank in_offer ≡ 2) ⊎ (wrong_kind is_kept in_bank in_offer ≡ 3))
+  three : (wrong_kind is_kept in_bank in_offer ≡ 1) ⊎ ((wrong_kind is_kept in_bank in_offer ≡ 2) ⊎
+      (wrong_kind is_kept in_bank in_offer ≡ 3))
   unfolding wrong_kind
   three = go (missing is_kept in_bank in_offer) (left_over is_kept in_offer)
     where
@@ -137,7 +137,8 @@ module _ (is_kept : Bool) (in_bank in_offer : ℕ) where
       go false false = inr (inr refl)
 
   -- "Every other difference is another value."
-  pub another_means : (wrong_kind is_kept in_bank in_offer ≡ 3) ↔ ((Missing is_kept in_bank in_offer → ⊥) × (LeftOver is_kept in_offer → ⊥))
+  pub another_means : (wrong_kind is_kept in_bank in_offer ≡ 3) ↔
+      ((Missing is_kept in_bank in_offer → ⊥) × (LeftOver is_kept in_offer → ⊥))
   another_means = (there, back three)
     where
       there : wrong_kind is_kept in_bank in_offer ≡ 3 → (Missing is_kept in_bank in_offer → ⊥) × (LeftOver is_kept in_offer → ⊥)
@@ -146,8 +147,8 @@ module _ (is_kept : Bool) (in_bank in_offer : ℕ) where
         λ m. let f = left_over_means.1 m in omega arith,
       )
 
-      back : (wrong_kind is_kept in_bank in_offer ≡ 1)
-          ⊎ ((wrong_kind is_kept in_bank in_offer ≡ 2) ⊎ (wrong_kind is_kept in_bank in_offer ≡ 3))
+      back : (wrong_kind is_kept in_bank in_offer ≡ 1) ⊎ ((wrong_kind is_kept in_bank in_offer ≡ 2) ⊎
+          (wrong_kind is_kept in_bank in_offer ≡ 3))
           → (Missing is_kept in_bank in_offer → ⊥) × (LeftOver is_kept in_offer → ⊥) → wrong_kind is_kept in_bank in_offer ≡ 3
       back (inl e) n = absurd (n.0 (missing_means.0 e))
       back (inr (inl e)) n = absurd (n.1 (left_over_means.0 e))
@@ -174,8 +175,8 @@ module _ (right offer : List ℕ) (n : length right ≡ bank_size) (m : length o
 
       back : offer ≡ right → Dec (lowest_wrong right offer < bank_size) → lowest_wrong right offer ≡ bank_size
       back e (yes p) =
-          absurd
-          (wrong_at_lem right offer (lowest_wrong right offer) (low.holds p) (ap (λ l. get_or l (lowest_wrong right offer) 0) (sym e)))
+          absurd (wrong_at_lem right offer (lowest_wrong right offer) (low.holds p)
+          (ap (λ l. get_or l (lowest_wrong right offer) 0) (sym e)))
       back e (no p) = omega (arith, low.to)
 
   -- where it is not the key there is such an address, and it is the lowest one

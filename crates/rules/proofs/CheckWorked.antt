@@ -15,5 +15,6 @@ use Rattle.rules.specs.CheckWorked.{check_table}
 pub checks : T (all_same check_table)
 unfolding check_table tab_from tab mem any all same accepted_direct accepted format_of ia8_table flag trail prepend and_then up_to direct
     paletted texel plain_row plain lookup_row lookup picture visible_picture kept key_of key lowest_wrong wrong_kind checked first settle
-    call check_call
+    call
+    check_call
 checks = tt

@@ -10,6 +10,7 @@ use Rattle.rules.specs.Worked.{all_same}
 use Rattle.rules.specs.LinearWorked.{linear_table}
 
 pub linear_decodings : T (all_same linear_table)
-unfolding linear_table tab_from tab concat any all same over accepted_direct accepted format_of ia8_table given trail prepend and_then up_to
+unfolding linear_table tab_from tab concat any all same over accepted_direct accepted format_of ia8_table given trail prepend and_then
+    up_to
     linear_texel linear_row linear first settle call linear_call
 linear_decodings = tt

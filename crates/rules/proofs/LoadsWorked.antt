@@ -10,7 +10,8 @@ use Rattle.rules.specs.LoadsWorked.{made_up_table, number_table, reason_table, c
 
 pub made_up_lem : T (all_same made_up_table)
 unfolding made_up_table tab_from tab concat all same how_many list4 split_stores whole_stores word_stores block_stores hardware_stores
-    entry_stores entry_row row_stores tlut_stores made_up
+    entry_stores
+    entry_row row_stores tlut_stores made_up
 made_up_lem = tt
 
 pub numbers : T (all_same number_table)

@@ -118,7 +118,8 @@ unfolding made_up how_many
 asked_of_padding size n [] = refl
 asked_of_padding size n (s ∷ l) =
     let p = s.from in
-    let own : one (leb size p) ≡ one (leb size p && ltb p (size + n)) + one (leb (size + n) p) = go (dec_lt p size) (dec_lt p (size + n)) in
+    let own : one (leb size p) ≡ one (leb size p && ltb p (size + n)) + one (leb (size + n) p) = go (dec_lt p size) (dec_lt p (size + n))
+    in
     ap (λ k. one (leb size p) + k) (asked_of_padding size n l) ∙ omega (arith, own)
   where
     go : {p : ℕ} → Dec (p < size) → Dec (p < size + n) → one (leb size p) ≡ one (leb size p && ltb p (size + n)) + one (leb (size + n) p)
@@ -173,8 +174,8 @@ split_made_up size t l start from = go (eqb t.fmt 1)
     go true = refl
     go false = pairs_split (λ k. one (leb size (from k)))
 
-pub word_made_up_lem : (size : ℕ) (t : LoadTile) (s row : ℕ) (from : ℕ → ℕ)
-    → made_up size (word_stores t s row from) ≡ word_made_up size from
+pub word_made_up_lem : (size : ℕ) (t : LoadTile) (s row : ℕ) (from : ℕ → ℕ) → made_up size (word_stores t s row from) ≡ word_made_up size
+    from
 word_made_up_lem size t s row from =
     either_shape t s row from (λ l. made_up size l ≡ word_made_up size from) (λ l start. split_made_up size t l start from)
     (λ l high. whole_made_up size l high (row % 2) from (omega arith))

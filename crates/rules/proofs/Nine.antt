@@ -68,8 +68,9 @@ module _ (bank map reasons src : List ℕ) (t : Tile) (image dxt words rows stri
       × Nineless (pam_read_call file picture)
       × Nineless (split_call count entries out)
   unfolding call call_or block_call tile_call tlut_hardware_call tlut_rows_call sampling_call reach_call has_load_call rejection_call
-      lane_call picture_call observed_call linear_call key_call check_call checked line_to number_call list_call tested outcome replay_call
-      run_call pam_write_call pam_read_call split_call
+      lane_call
+      picture_call observed_call linear_call key_call check_call checked line_to number_call list_call tested outcome replay_call run_call
+      pam_write_call pam_read_call split_call
   no_nine = (
     nineless _ _ _ _ _ refl,
     nineless _ _ _ _ _ refl,

@@ -13,7 +13,8 @@ use Rattle.rules.specs.Key.{kept_count}
 use Rattle.rules.specs.Refusal.{Test, ◌if◌, first, settle, call_or}
 use Rattle.rules.specs.Calls.{source_outside, number_tests, pair_tests}
 use Rattle.rules.specs.Replay.{replay_size, kind_in, lane_in, tile_in, mode_in, image_in, size_in, asks_key, stores_in, outside_in}
-use Rattle.rules.specs.Replay.{beyond, record_tests, Carried, lent_of, spent, count_of, left, last_of, tested, step_tests, outcome, part_of}
+use Rattle.rules.specs.Replay.{beyond, record_tests, Carried, lent_of, spent, count_of, left, last_of, tested, step_tests, outcome}
+use Rattle.rules.specs.Replay.{part_of}
 use Rattle.rules.specs.Replay.{short_part, own_tests, replay_tests, replay_call}
 use Rattle.rules.proofs.Ranges.{neither}
 use Rattle.rules.proofs.Refused.{Numbered, numbered, first_zero, first-front, first-after}

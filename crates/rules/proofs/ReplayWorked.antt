@@ -18,7 +18,8 @@ use Rattle.rules.specs.ReplayWorked.{replay_table}
 pub replays : T (all_same replay_table)
 unfolding replay_table tab_from tab concat mem any all same distinct stamped stamps accepted_direct accepted format_of ia8_table flag list4
     split_stores whole_stores word_stores block_stores tile_row tile_stores hardware_stores entry_stores entry_row row_stores tlut_stores
-    stored written reasoned trail prepend and_then up_to direct paletted texel plain_row plain lookup_row lookup visible_picture kept_count
-    first settle call_or record_tile low_digits reversed decimal line_text stores_in outside_in record_tests count_of left tested outcome
-    in_file replayed lines texts replay_text
+    stored
+    written reasoned trail prepend and_then up_to direct paletted texel plain_row plain lookup_row lookup visible_picture kept_count first
+    settle call_or record_tile low_digits reversed decimal line_text stores_in outside_in record_tests count_of left tested outcome in_file
+    replayed lines texts replay_text
 replays = tt

@@ -14,6 +14,7 @@ use Rattle.rules.specs.SidesWorked.{side_table}
 
 pub sides : T (all_same side_table)
 unfolding side_table tab_from tab mem any all same distinct accepted_direct accepted format_of ia8_table flag extent_width extent_height
-    texels trail prepend and_then up_to direct paletted texel plain_row plain lookup_row lookup visible_picture kept_count first settle call
+    texels
+    trail prepend and_then up_to direct paletted texel plain_row plain lookup_row lookup visible_picture kept_count first settle call
     sampling_call line_to
 sides = tt

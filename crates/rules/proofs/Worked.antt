@@ -13,8 +13,8 @@ use Rattle.rules.specs.Worked.{all_same, table, Holds, p1, p2, p3, p4, p5, p6, p
 
 pub worked : Holds table
 unfolding table Holds p1 p2 p3 p4 p5 p6 p7 p8 p9 p10 p11 p12 slip listed tab_from tab concat mem any all same distinct accepted_direct
-    accepted format_of ia8_table flag texels list4 split_stores whole_stores word_stores block_stores hardware_stores entry_stores entry_row
-    row_stores tlut_stores stored trail prepend and_then up_to direct paletted texel plain_row plain lookup_row lookup picture
+    accepted format_of ia8_table flag texels list4 split_stores whole_stores word_stores block_stores hardware_stores entry_stores
+    entry_row row_stores tlut_stores stored trail prepend and_then up_to direct paletted texel plain_row plain lookup_row lookup picture
     visible_picture kept key_of key kept_count first settle call record_tile line_to record_line_to low_digits reversed decimal line_text
     listing_to
 worked = (tt, (tt, (tt, (tt, (tt, (tt, (tt, (tt, (tt, (tt, (tt, (tt, (tt, (tt, tt))))))))))))))

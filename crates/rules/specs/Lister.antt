@@ -1,6 +1,6 @@
 -- The lister: records of 4,112 bytes in, a line each out.
-use Rattle.std.specs.Prelude.{true, false, cond, ℕ, zero, suc, ◌+◌, ◌*◌, ◌/◌, ◌%◌, eqb, ltb}
-use Rattle.std.specs.Prelude.{List, [], ◌∷◌, ◌++◌, length, get_or, take, drop}
+use Rattle.std.specs.Prelude.{true, false, cond, List, [], ◌∷◌, ◌++◌, ℕ, zero, suc, ◌+◌, ◌*◌, ◌/◌, ◌%◌, eqb, ltb, length, get_or, take}
+use Rattle.std.specs.Prelude.{drop}
 use Rattle.rules.specs.Base.{one, tab, concat, record_of, over}
 use Rattle.rules.specs.Tile.{Tile, bank_size, side_limit}
 use Rattle.rules.specs.Sampling.{flag, texels}

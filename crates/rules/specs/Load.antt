@@ -1,6 +1,6 @@
 -- What a load stores, in order: "Rules for loads (000)". A load is its list of stores.
-use Rattle.std.specs.Prelude.{Bool, false, cond, ◌&&◌, ◌||◌, ℕ, ◌+◌, ◌-◌, ◌*◌, ◌/◌, ◌%◌, ◌^◌, eqb, ltb, leb}
-use Rattle.std.specs.Prelude.{List, [], ◌∷◌, map, get_or, set}
+use Rattle.std.specs.Prelude.{Bool, false, cond, ◌&&◌, ◌||◌, List, [], ◌∷◌, map, ℕ, ◌+◌, ◌-◌, ◌*◌, ◌/◌, ◌%◌, ◌^◌, eqb, ltb, leb, get_or}
+use Rattle.std.specs.Prelude.{set}
 use Rattle.std.specs.Int.Bits.{bit_and, bit_xor}
 use Rattle.rules.specs.Base.{tab, concat, how_many, stamps}
 use Rattle.rules.specs.Tile.{Tile}

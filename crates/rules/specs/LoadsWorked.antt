@@ -1,4 +1,5 @@
--- Document 02's items 2, 7, 8 and 9: what loads make up, their numbers and reasons, and what the calls of TLUT and tile loads take, worked.
+-- Document 02's items 2, 7, 8 and 9: what loads make up, their numbers and reasons, and what the calls of TLUT and tile loads take,
+-- worked.
 -- `Rattle.rules.proofs.LoadsWorked` proves every row of each table.
 use Rattle.std.specs.Prelude.{List, [], ◌∷◌, ◌++◌, map, ℕ, get_or, replicate}
 use Rattle.rules.specs.Base.{concat}

@@ -1,6 +1,7 @@
 -- Document 02's item 3: pictures as files in the Netpbm PAM format. "The writer has one fixed header spelling; the reader takes the header
 -- lines in any order, comments too, as the public PAM description allows."
-use Rattle.std.specs.Prelude.{Bool, true, false, cond, not, ◌&&◌, ◌||◌, List, [], ◌∷◌, ◌++◌, ℕ, ◌+◌, ◌-◌, ◌*◌, eqb, ltb, length, take, drop}
+use Rattle.std.specs.Prelude.{Bool, true, false, cond, not, ◌&&◌, ◌||◌, List, [], ◌∷◌, ◌++◌, ℕ, ◌+◌, ◌-◌, ◌*◌, eqb, ltb, length, take}
+use Rattle.std.specs.Prelude.{drop}
 use Prim.Native.Char.{code}
 use Prim.Native.String.{String, [] as ε, ◌∷◌ as ◌▹◌}
 use Rattle.rules.specs.Base.{any, all, empty, same, over}

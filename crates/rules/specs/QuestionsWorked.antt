@@ -1,4 +1,5 @@
--- Document 02's items 7 and 8: questions of written records and of reasons, worked. `Rattle.rules.proofs.QuestionsWorked` proves every row.
+-- Document 02's items 7 and 8: questions of written records and of reasons, worked. `Rattle.rules.proofs.QuestionsWorked` proves every
+-- row.
 use Rattle.std.specs.Prelude.{List, [], ◌∷◌, ◌++◌, map, ℕ, ◌-◌, length, get_or, set, replicate}
 use Rattle.rules.specs.Base.{one, number_at}
 use Rattle.rules.specs.Tile.{Tile, tile_from, fresh_reasons}

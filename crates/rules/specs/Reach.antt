@@ -1,7 +1,6 @@
 -- The addresses that a tile can reach, in order; whether one was loaded, and which reason is the first among them; the lane check.
-use Rattle.std.specs.Prelude.{Bool, true, false, cond, not, ◌&&◌, ◌||◌}
-use Rattle.std.specs.Prelude.{ℕ, zero, suc, ◌+◌, ◌-◌, ◌*◌, ◌/◌, ◌%◌, ◌^◌, min, max, eqb, ltb, leb}
-use Rattle.std.specs.Prelude.{List, [], ◌∷◌, ◌++◌, get_or, replicate}
+use Rattle.std.specs.Prelude.{Bool, true, false, cond, not, ◌&&◌, ◌||◌, List, [], ◌∷◌, ◌++◌, ℕ, zero, suc, ◌+◌, ◌-◌, ◌*◌, ◌/◌, ◌%◌, ◌^◌}
+use Rattle.std.specs.Prelude.{min, max, eqb, ltb, leb, get_or, replicate}
 use Rattle.rules.specs.Base.{odd, tab, concat, marks, is_written, any}
 use Rattle.rules.specs.Tile.{Tile, palette_base, lane_map_size, fresh_map}
 use Rattle.rules.specs.Texdec.{tlut}

@@ -1,7 +1,7 @@
 -- The replay of a capture's loads, document 02's item 1: records of 48 bytes in, a line each out, over a bank, a written map, reasons and
 -- the last load's number, which are carried from record to record.
-use Rattle.std.specs.Prelude.{Bool, cond, not, ◌&&◌, ◌||◌, ℕ, suc, ◌+◌, ◌-◌, ◌*◌, ◌/◌, eqb, ltb}
-use Rattle.std.specs.Prelude.{List, [], ◌∷◌, ◌++◌, length, get_or, take, drop}
+use Rattle.std.specs.Prelude.{Bool, cond, not, ◌&&◌, ◌||◌, List, [], ◌∷◌, ◌++◌, ℕ, suc, ◌+◌, ◌-◌, ◌*◌, ◌/◌, eqb, ltb, length, get_or}
+use Rattle.std.specs.Prelude.{take, drop}
 use Rattle.rules.specs.Base.{tab, record_of, over}
 use Rattle.rules.specs.Tile.{Tile, fresh_bank, fresh_written, fresh_reasons}
 use Rattle.rules.specs.Load.{Store, load_tile, block_stores, tile_stores, tlut_stores, following, ordinary}

@@ -17,7 +17,7 @@ fn byte_of(n: u32, seed: u32) -> u8 {
 
 // Bytes made from the seed and what is added to it.
 pub(crate) fn made(out: &mut [u8], seed: u32, more: u32) {
-    let mut n = std::num::wrapping_add_u32(seed, more);
+    let mut n = seed.wrapping_add(more);
     let mut i = 0;
     while i < out.len() {
         n = next(n);
@@ -83,7 +83,7 @@ fn has_number(written: &[u8], at: usize) -> u8 {
 fn mark_byte(written: &[u8], first: usize) -> u8 {
     let mut bits = 0u8;
     for k in 0..8 {
-        bits = bits | has_number(written, std::num::wrapping_add_usize(first, k)) << k;
+        bits = bits | has_number(written, first.wrapping_add(k)) << k;
     }
     bits
 }

@@ -61,7 +61,7 @@ fn load(
 // The number of the last load after one: its own, or, where it was refused, the one before.
 fn number_after(last: u32, refusal: u32) -> u32 {
     if refusal == 0 {
-        std::num::wrapping_add_u32(last, 1)
+        last.wrapping_add(1)
     } else {
         last
     }
@@ -85,9 +85,16 @@ fn load_is(r: &[u8], kind: u32, source: &[u8]) -> bool {
         & second_is(r, &marks)
 }
 
+// Room for the longest source. A caller is told its length alone.
+fn source_buffer() -> [u8; 65536]
+    ensures { 65536 ≡ length result }
+{
+    [0u8; 65536]
+}
+
 // A load of a source of the case's length.
 fn load_case(r: &[u8], kind: u32) -> bool {
-    let mut source = io::large_buffer();
+    let mut source = source_buffer();
     buffers::made(&mut source, record::four(r, 30), 2);
     let long = record::long(r, 34, 65536);
     load_is(r, kind, &source[..long])

@@ -6,7 +6,11 @@ mod buffers;
 mod cases;
 mod record;
 
-use libc::{STDIN_FILENO, STDOUT_FILENO};
+use std::io;
+use std::io::{BufReader, ErrorKind, Read};
+
+// What is read at a time, in bytes.
+const PIECE: usize = 65536;
 
 // What was found so far, the digest of all bytes so far, and whether the last record was the end record with the digest of all
 // bytes before its own.
@@ -29,8 +33,8 @@ fn ended(t: Tally, sum: u32, whole: bool) -> Tally {
 
 fn counted(t: Tally, sum: u32, holds: bool) -> Tally {
     Tally {
-        cases: std::num::wrapping_add_u64(t.cases, 1),
-        wrong: std::num::wrapping_add_u64(t.wrong, !holds as u64),
+        cases: t.cases.wrapping_add(1),
+        wrong: t.wrong.wrapping_add(!holds as u64),
         sum,
         whole: false,
     }
@@ -45,21 +49,30 @@ fn after(t: Tally, r: &[u8], most: u32, all: u32) -> Tally {
     }
 }
 
+// Reads the next record, and answers whether there was a whole one.
+fn read_record<R: Read>(input: &mut R, r: &mut [u8]) -> io::Result<bool> {
+    match input.read_exact(r) {
+        Ok(()) => Ok(true),
+        Err(error) if error.kind() == ErrorKind::UnexpectedEof => Ok(false),
+        Err(error) => Err(error),
+    }
+}
+
 // Past the end of the input nothing changes.
-fn step(t: Tally) -> Tally {
+fn step<R: Read>(input: &mut R, t: Tally) -> io::Result<Tally> {
     let mut r = [0u8; 64];
-    if io::read_full(STDIN_FILENO, &mut r) < 64 {
-        return t;
+    if !read_record(input, &mut r)? {
+        return Ok(t);
     }
     let most = buffers::digest_on(t.sum, &r[..60]);
     let all = buffers::digest_on(t.sum, &r);
-    after(t, &r, most, all)
+    Ok(after(t, &r, most, all))
 }
 
 // The first record says how the file was made; the others are replayed, ten thousand at most.
-fn replay() -> Tally {
+fn replay<R: Read>(input: &mut R) -> io::Result<Tally> {
     let mut head = [0u8; 64];
-    io::read_full(STDIN_FILENO, &mut head);
+    read_record(input, &mut head)?;
     let mut t = Tally {
         cases: 0,
         wrong: 0,
@@ -67,22 +80,17 @@ fn replay() -> Tally {
         whole: false,
     };
     for _ in 0..10000u32 {
-        t = step(t);
+        t = step(input, t)?;
     }
-    t
+    Ok(t)
 }
 
-fn report(t: Tally) {
-    io::print_decimal(STDOUT_FILENO, t.cases);
-    io::write_all(STDOUT_FILENO, b" cases, ");
-    io::print_decimal(STDOUT_FILENO, t.wrong);
-    if t.whole {
-        io::write_all(STDOUT_FILENO, b" wrong, the file whole\n");
-    } else {
-        io::write_all(STDOUT_FILENO, b" wrong, the file damaged\n");
-    }
+fn report(rt: &impl Print, t: Tally) -> io::Result<()> {
+    let state = if t.whole { "whole" } else { "damaged" };
+    println!(rt; "{} cases, {} wrong, the file {state}", t.cases, t.wrong)
 }
 
-fn main() {
-    report(replay());
+fn main(rt: HostRuntime) -> io::Result<()> {
+    let mut input = BufReader::with_capacity(rt.alloc(), PIECE, rt.stdin())?;
+    report(&rt, replay(&mut input)?)
 }

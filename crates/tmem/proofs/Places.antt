@@ -37,7 +37,8 @@ split_turn_lem a step l start j e h p =
     rw (← e, up) (exchanged _ _ _ _ (omega arith) p)
 
 -- they are the rule's, where of each four bytes the low half takes the first and the one a step on
-pub split_is : (t : LoadTile) (l : List ℕ) (start : ℕ) → concat (tab 2 (split_turn (split_step t) l start)) ≡ split_stores t l start (λ k. k)
+pub split_is : (t : LoadTile) (l : List ℕ) (start : ℕ) → concat (tab 2 (split_turn (split_step t) l start)) ≡ split_stores t l start
+    (λ k. k)
 unfolding split_stores concat tab tab_from
 split_is t l start = go (eqb t.fmt 1)
   where

@@ -16,14 +16,17 @@ room k = ap length k.empty_key-out.ensures ∙ length-replicate {A = ℕ} bank_s
 
 pub returns-then-cut-ne0 : goal.returns-then-cut-ne0
 returns-then-cut-ne0 c =
-    line_refused _ _ _ _ (start (goal.at.returns-then-cut-ne0 c).After-key-cut).requires (room (goal.at.returns-then-cut-ne0 c).After-key-cut) _ _ _ c.key-cut.ensures c.if-cut-ne0.true
+    line_refused _ _ _ _ (start (goal.at.returns-then-cut-ne0 c).After-key-cut).requires
+    (room (goal.at.returns-then-cut-ne0 c).After-key-cut) _ _ _ c.key-cut.ensures c.if-cut-ne0.true
 
 pub texel_count-requires : goal.texel_count-requires
 texel_count-requires c =
-    let a = line_allowed _ _ _ _ (start (goal.at.texel_count-requires c).After-key-cut).requires (room (goal.at.texel_count-requires c).After-key-cut) _ _ _ c.key-cut.ensures c.if-cut-ne0.false in
+    let a = line_allowed _ _ _ _ (start (goal.at.texel_count-requires c).After-key-cut).requires
+    (room (goal.at.texel_count-requires c).After-key-cut) _ _ _ c.key-cut.ensures c.if-cut-ne0.false in
     (a.inside.width, a.inside.height)
 
 pub returns : goal.returns
 returns c =
     let flag = c.from_tile-sampling.ensures.lookup_value in
-    line_done _ _ _ _ (start (goal.at.returns c).After-key-cut).requires (room (goal.at.returns c).After-key-cut) _ _ _ c.key-cut.ensures _ _ c.if-cut-ne0.false flag c.texel_count.ensures
+    line_done _ _ _ _ (start (goal.at.returns c).After-key-cut).requires (room (goal.at.returns c).After-key-cut) _ _ _ c.key-cut.ensures
+    _ _ c.if-cut-ne0.false flag c.texel_count.ensures

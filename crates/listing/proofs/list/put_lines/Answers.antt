@@ -26,7 +26,8 @@ returns-then-input-eq0 c =
 pub returns : goal.returns
 returns c =
     let l = c.put_line.ensures in
-    let w = torn_text _ _ _ _ (records (goal.at.returns c).After-put_records-at) _ _ (ne_eqb _ _ c.if-input-eq0.false) l.value l.out_after in
+    let w = torn_text _ _ _ _ (records (goal.at.returns c).After-put_records-at) _ _ (ne_eqb _ _ c.if-input-eq0.false) l.value l.out_after
+    in
     record {
       value = w.end;
       out_after = w.is;

@@ -9,7 +9,8 @@ use Rattle.listing.proofs.list.put_records.Given as goal
 
 abbrev pub invariant-loop-i : goal.invariant-loop-i
 invariant-loop-i l =
-    (l.i ≤ l.count) × (length l.out ≡ length l.initial.out) × (l.at ≤ line_room * l.i) × Wrote (record_texts l.input l.i) l.initial.out l.at l.out
+    (l.i ≤ l.count) × (length l.out ≡ length l.initial.out) × (l.at ≤ line_room * l.i) × Wrote (record_texts l.input l.i) l.initial.out
+    l.at l.out
 
 abbrev pub decreases-loop-i : goal.decreases-loop-i
 decreases-loop-i l = l.count - l.i

@@ -8,7 +8,8 @@ use Rattle.pam.proofs.header.read_lines.Given as goal
 
 abbrev pub invariant-loop-at : goal.invariant-loop-at
 invariant-loop-at l =
-    (l.at ≤ length l.file) × (read_from l.start no_lines (lines (drop l.start l.file)) ≡ read_from l.at l.stated (lines (drop l.at l.file)))
+    (l.at ≤ length l.file) × (read_from l.start no_lines (lines (drop l.start l.file)) ≡ read_from l.at l.stated
+    (lines (drop l.at l.file)))
 
 abbrev pub decreases-loop-at : goal.decreases-loop-at
 decreases-loop-at l = length l.file - l.at

@@ -20,7 +20,8 @@ returns-then-no-ne0 c = refused_is _ _ _ _ _ c.map_refusal-no.ensures c.if-no-ne
 
 pub first_reason-requires : goal.first_reason-requires
 first_reason-requires c =
-    let w = within reasons_size c.args.reasons.now (tile_of c.args.tile) c.args.tlut (zero (goal.at.first_reason-requires c).Else-no-ne0) in
+    let w = within reasons_size c.args.reasons.now (tile_of c.args.tile) c.args.tlut (zero (goal.at.first_reason-requires c).Else-no-ne0)
+    in
     record { reasons_len = w.0; in_range = w.1 }
 
 pub returns : goal.returns

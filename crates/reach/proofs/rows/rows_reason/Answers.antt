@@ -29,8 +29,12 @@ returns-then-at_once-ne0 c =
     (at_once _ row.result byte _ reason.ensures c.if-at_once-ne0.true ∙ rw row.ensures.result_value) c.if-at_once-ne0.true
 
 pub short_rows-requires-clause-bytes_value : goal.short_rows-requires-clause-bytes_value
-short_rows-requires-clause-bytes_value c =
-    (c.row_bytes-bytes.ensures, omega (arith, c.if-bytes-le8.true), omega (arith, c.reach_rows-rows.ensures, rows_le (tile_of c.args.tile)))
+short_rows-requires-clause-bytes_value c = (
+  c.row_bytes-bytes.ensures,
+  omega (arith, c.if-bytes-le8.true),
+  omega
+      (arith, c.reach_rows-rows.ensures, rows_le (tile_of c.args.tile)),
+)
 
 pub returns-then-bytes-le8 : goal.returns-then-bytes-le8
 unfolding reach_plain

@@ -47,7 +47,8 @@ slice_bounds-at_hand-count c = omega arith
 pub returns-then-not-at_hand : goal.returns-then-not-at_hand
 returns-then-not-at_hand c =
     let here = c.loop-i-test.true in
-    ahead_stop _ _ _ _ here c.loop-i.invariant.2 (sym (hand (goal.at.returns-then-not-at_hand c).After-at_hand) ∙ c.if-not-at_hand.true) ∙ all (goal.at.returns-then-not-at_hand c).At-loop-i
+    ahead_stop _ _ _ _ here c.loop-i.invariant.2 (sym (hand (goal.at.returns-then-not-at_hand c).After-at_hand) ∙ c.if-not-at_hand.true) ∙
+    all (goal.at.returns-then-not-at_hand c).At-loop-i
 
 pub overflow_step-i : goal.overflow_step-i
 overflow_step-i c = omega arith
@@ -57,8 +58,12 @@ loop-i-smaller c = omega arith
 
 pub loop-i-preserved : goal.loop-i-preserved
 loop-i-preserved c =
-    let here = c.loop-i-test.true in
-    (c.loop-i.invariant.0, omega arith, ahead_more _ _ _ _ here c.loop-i.invariant.2 (sym (hand (goal.at.loop-i-preserved c).After-at_hand) ∙ c.if-not-at_hand.false))
+    let here = c.loop-i-test.true in (
+      c.loop-i.invariant.0,
+      omega arith,
+      ahead_more _ _ _ _ here c.loop-i.invariant.2
+          (sym (hand (goal.at.loop-i-preserved c).After-at_hand) ∙ c.if-not-at_hand.false),
+    )
 
 pub returns : goal.returns
 returns c =

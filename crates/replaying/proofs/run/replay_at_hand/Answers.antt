@@ -35,7 +35,13 @@ overflow_add-to c = record { fits = omega (arith, c.offset_in.ensures.upper_boun
 
 pub slice_bounds-replay_step-end-2 : goal.slice_bounds-replay_step-end-2
 slice_bounds-replay_step-end-2 c =
-    omega (arith, (within (goal.at.slice_bounds-replay_step-end-2 c).Else-not-takes_part).0, (within (goal.at.slice_bounds-replay_step-end-2 c).Else-not-takes_part).1, c.offset_in.ensures.value, c.size_in.ensures.value)
+    omega (
+      arith,
+      (within (goal.at.slice_bounds-replay_step-end-2 c).Else-not-takes_part).0,
+      (within (goal.at.slice_bounds-replay_step-end-2 c).Else-not-takes_part).1,
+      c.offset_in.ensures.value,
+      c.size_in.ensures.value,
+    )
 
 pub returns : goal.returns
 returns c =

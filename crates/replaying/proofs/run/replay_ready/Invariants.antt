@@ -14,7 +14,8 @@ invariant-loop-i l =
     × (length l.reasons ≡ length l.initial.reasons)
     × (length l.out ≡ length l.initial.out)
     × (l.at.end ≤ replay_room * l.i)
-    × Run (piece l.end l.start l.held) (first_records l.input l.i) (carried l.initial.bank l.initial.written l.initial.reasons l.last) l.initial.out
+    × Run (piece l.end l.start l.held) (first_records l.input l.i) (carried l.initial.bank l.initial.written l.initial.reasons l.last)
+    l.initial.out
     (carried l.bank l.written l.reasons l.at.last) l.out l.at.end
 
 abbrev pub decreases-loop-i : goal.decreases-loop-i

@@ -19,7 +19,8 @@ returns-then-no-ne0 c = refused_or_is _ _ _ _ _ _ c.run_refusal-no.ensures c.if-
 pub replay_ready-at-requires : goal.replay_ready-at-requires
 replay_ready-at-requires c =
     let a = c.args in
-    let lent = run_lent a.bank.now a.written.now a.reasons.now a.input.now a.out.now (passed (goal.at.replay_ready-at-requires c).Else-no-ne0) in
+    let lent = run_lent a.bank.now a.written.now a.reasons.now a.input.now a.out.now
+    (passed (goal.at.replay_ready-at-requires c).Else-no-ne0) in
     record {
       all_lent = lent.0;
       count_value = c.ready_count-records.ensures;

@@ -15,13 +15,15 @@ returns-then-no-ne0 c =
 pub returns-then-out-record_count : goal.returns-then-out-record_count
 returns-then-out-record_count c =
     let a = c.args in
-    let short : length a.out.now < replay_room * record_count a.input.now = omega (arith, c.if-out-record_count.true, c.record_count.ensures) in
+    let short : length a.out.now < replay_room * record_count a.input.now = omega
+    (arith, c.if-out-record_count.true, c.record_count.ensures) in
     run_short_text a.bank.now a.written.now a.reasons.now a.input.now a.out.now _ c.lent_refusal-no.ensures
     c.if-no-ne0.false short
 
 pub returns-else-out-record_count : goal.returns-else-out-record_count
 returns-else-out-record_count c =
     let a = c.args in
-    let room : replay_room * record_count a.input.now ≤ length a.out.now = omega (arith, c.if-out-record_count.false, c.record_count.ensures) in
+    let room : replay_room * record_count a.input.now ≤ length a.out.now = omega
+    (arith, c.if-out-record_count.false, c.record_count.ensures) in
     run_whole a.bank.now a.written.now a.reasons.now a.input.now a.out.now _ c.lent_refusal-no.ensures
     c.if-no-ne0.false room

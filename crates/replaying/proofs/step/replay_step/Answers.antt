@@ -29,13 +29,15 @@ kept_count-count-requires c =
     let a = c.args in record {
       bank_len = c.requires.all_lent.whole_bank;
       replay_size_in_bounds = whole a.end a.bytes.now (accepted (goal.at.kept_count-count-requires c).Else-no-ne0);
-      bytes_value = key_passes a.end a.bytes.now (accepted (goal.at.kept_count-count-requires c).Else-no-ne0) (sym c.asks_key.ensures ∙ c.if-asks_key.true);
+      bytes_value = key_passes a.end a.bytes.now (accepted (goal.at.kept_count-count-requires c).Else-no-ne0)
+          (sym c.asks_key.ensures ∙ c.if-asks_key.true);
     }
 
 pub returns-then-asks_key : goal.returns-then-asks_key
 returns-then-asks_key c =
     let a = c.args in
-    key_done a.end a.bytes.now a.src.now (held (goal.at.returns-then-asks_key c).Else-no-ne0) (passed (goal.at.returns-then-asks_key c).Else-no-ne0) _
+    key_done a.end a.bytes.now a.src.now (held (goal.at.returns-then-asks_key c).Else-no-ne0)
+    (passed (goal.at.returns-then-asks_key c).Else-no-ne0) _
     (sym c.asks_key.ensures ∙ c.if-asks_key.true) c.kept_count-count.ensures
 
 pub carry_out-requires : goal.carry_out-requires
@@ -46,7 +48,8 @@ carry_out-requires c =
     let numbers = load_passes a.end b (accepted (goal.at.carry_out-requires c).Else-no-ne0) load in record {
       all_lent = c.requires.all_lent;
       replay_size_in_bounds = whole a.end b (accepted (goal.at.carry_out-requires c).Else-no-ne0);
-      bytes_value = shorter_source (size_in b) _ (tile_in b) (image_in b) (outside_in b) (beyond a.end b ∷ []) c.requires.src_len_bound numbers;
+      bytes_value = shorter_source (size_in b) _ (tile_in b) (image_in b) (outside_in b) (beyond a.end b ∷ []) c.requires.src_len_bound
+          numbers;
       last_bound = number-left a.end b a.last load (passed (goal.at.carry_out-requires c).Else-no-ne0);
     }
 

@@ -7,7 +7,8 @@ use Rattle.tmem.proofs.entries.write_tlut_entry.Given as goal
 
 abbrev pub invariant-loop-k : goal.invariant-loop-k
 invariant-loop-k l =
-    Turn 4 (entry_turn l.at.0) (bytes_in l.word.bytes) l.label (memory l.initial.bank l.initial.written l.initial.reasons) l.k (memory l.bank l.written l.reasons)
+    Turn 4 (entry_turn l.at.0) (bytes_in l.word.bytes) l.label (memory l.initial.bank l.initial.written l.initial.reasons) l.k
+    (memory l.bank l.written l.reasons)
 
 abbrev pub decreases-loop-k : goal.decreases-loop-k
 decreases-loop-k l = 4 - l.k

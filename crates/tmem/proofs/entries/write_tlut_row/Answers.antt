@@ -12,7 +12,8 @@ use Rattle.tmem.proofs.entries.write_tlut_row.Goals as goal
 source-within : (c : In-loop-i)
     → let a = c.args in a.row * a.stride ≤ 1023 * 65535
 source-within c =
-    product_within 1023 65535 c.args.row c.args.stride (omega (arith, (goal.at.In-loop-i c).Start)) (omega (arith, (goal.at.In-loop-i c).Start))
+    product_within 1023 65535 c.args.row c.args.stride (omega (arith, (goal.at.In-loop-i c).Start))
+    (omega (arith, (goal.at.In-loop-i c).Start))
 
 pub none-tally-requires : goal.none-tally-requires
 none-tally-requires c = tt
@@ -41,7 +42,11 @@ write_tlut_entry-more-requires c =
     record {
       lent = c.loop-i.invariant.turn.lent;
       at_bound = c.entry_addr-at.ensures.result_bound;
-      source_bound = omega (arith, source-within (goal.at.write_tlut_entry-more-requires c).In-loop-i, (goal.at.write_tlut_entry-more-requires c).In-loop-i);
+      source_bound = omega (
+        arith,
+        source-within (goal.at.write_tlut_entry-more-requires c).In-loop-i,
+        (goal.at.write_tlut_entry-more-requires c).In-loop-i,
+      );
     }
 
 pub plus-tally-requires : goal.plus-tally-requires

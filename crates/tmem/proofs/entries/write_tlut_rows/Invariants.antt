@@ -7,7 +7,8 @@ use Rattle.tmem.proofs.entries.write_tlut_rows.Given as goal
 
 abbrev pub invariant-loop-row : goal.invariant-loop-row
 invariant-loop-row l =
-    Counting l.rows (entry_row (load_of l.tile) l.count l.stride) l.src l.label (memory l.initial.bank l.initial.written l.initial.reasons) l.row (memory l.bank l.written l.reasons) l.tally
+    Counting l.rows (entry_row (load_of l.tile) l.count l.stride) l.src l.label
+    (memory l.initial.bank l.initial.written l.initial.reasons) l.row (memory l.bank l.written l.reasons) l.tally
 
 abbrev pub decreases-loop-row : goal.decreases-loop-row
 decreases-loop-row l = l.rows - l.row

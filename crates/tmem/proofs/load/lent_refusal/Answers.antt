@@ -27,4 +27,9 @@ returns-else-reasons-ne-REASONS_SIZE c =
     let a = c.args in
     sym
     (all_lent a.bank.now a.written.now a.reasons.now []
-    (record { whole_bank = c.if-bank-ne-SIZE.false; whole_map = c.if-written-ne-WRITTEN_SIZE.false; whole_reasons = c.if-reasons-ne-REASONS_SIZE.false }))
+    (record {
+      whole_bank = c.if-bank-ne-SIZE.false;
+      whole_map = c.if-written-ne-WRITTEN_SIZE.false;
+      whole_reasons =
+          c.if-reasons-ne-REASONS_SIZE.false;
+    }))

@@ -23,23 +23,29 @@ rest s = bad_reason (reason_of s.args.reason) ∷ (18 if number_spent s.args.las
 
 pub returns-then-lent-ne0 : goal.returns-then-lent-ne0
 returns-then-lent-ne0 c =
-    first-before (lent (goal.at.returns-then-lent-ne0 c).Start) (own (goal.at.returns-then-lent-ne0 c).Start (rest (goal.at.returns-then-lent-ne0 c).Start)) _ (numbered _ refl) c.lent_refusal-lent.ensures c.if-lent-ne0.true
+    first-before (lent (goal.at.returns-then-lent-ne0 c).Start)
+    (own (goal.at.returns-then-lent-ne0 c).Start (rest (goal.at.returns-then-lent-ne0 c).Start)) _ (numbered _ refl)
+    c.lent_refusal-lent.ensures c.if-lent-ne0.true
 
 -- the lengths passed, and the other tests are left
 lent_passed : (c : Else-lent-ne0) → let s = c in
-    first (lent (goal.at.Else-lent-ne0 c).Start ++ own (goal.at.Else-lent-ne0 c).Start (rest (goal.at.Else-lent-ne0 c).Start)) ≡ first (own (goal.at.Else-lent-ne0 c).Start (rest (goal.at.Else-lent-ne0 c).Start))
+    first (lent (goal.at.Else-lent-ne0 c).Start ++ own (goal.at.Else-lent-ne0 c).Start (rest (goal.at.Else-lent-ne0 c).Start)) ≡ first
+    (own (goal.at.Else-lent-ne0 c).Start (rest (goal.at.Else-lent-ne0 c).Start))
 lent_passed c =
     let s = c in
-    first-after (lent (goal.at.Else-lent-ne0 c).Start) (own (goal.at.Else-lent-ne0 c).Start (rest (goal.at.Else-lent-ne0 c).Start)) (numbered _ refl) (sym c.lent_refusal-lent.ensures ∙ c.if-lent-ne0.false)
+    first-after (lent (goal.at.Else-lent-ne0 c).Start) (own (goal.at.Else-lent-ne0 c).Start (rest (goal.at.Else-lent-ne0 c).Start))
+    (numbered _ refl) (sym c.lent_refusal-lent.ensures ∙ c.if-lent-ne0.false)
 
 pub returns-then-no-ne0 : goal.returns-then-no-ne0
 returns-then-no-ne0 c =
-    first-before (own (goal.at.returns-then-no-ne0 c).Start []) (rest (goal.at.returns-then-no-ne0 c).Start) _ (numbered _ refl) c.number_refusal-no.ensures c.if-no-ne0.true ∙ sym (lent_passed (goal.at.returns-then-no-ne0 c).Else-lent-ne0)
+    first-before (own (goal.at.returns-then-no-ne0 c).Start []) (rest (goal.at.returns-then-no-ne0 c).Start) _ (numbered _ refl)
+    c.number_refusal-no.ensures c.if-no-ne0.true ∙ sym (lent_passed (goal.at.returns-then-no-ne0 c).Else-lent-ne0)
 
 pub returns : goal.returns
 unfolding first
 returns c =
-    let passed = first-after (own (goal.at.returns c).Start []) (rest (goal.at.returns c).Start) (numbered _ refl) (sym c.number_refusal-no.ensures ∙ c.if-no-ne0.false) in
+    let passed = first-after (own (goal.at.returns c).Start []) (rest (goal.at.returns c).Start) (numbered _ refl)
+    (sym c.number_refusal-no.ensures ∙ c.if-no-ne0.false) in
     rw (
       lent_passed (goal.at.returns c).Else-lent-ne0,
       passed,

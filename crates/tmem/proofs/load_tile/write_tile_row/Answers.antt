@@ -16,7 +16,8 @@ overflow_mul-row c = omega (arith, place-within (goal.at.overflow_mul-row c).Sta
 
 pub write_words-requires : goal.write_words-requires
 write_words-requires c =
-    let paced = image_paced c.args.image_siz c.args.row 0 (c.args.row * c.args.stride) (omega arith) (place-within (goal.at.write_words-requires c).Start) in
+    let paced = image_paced c.args.image_siz c.args.row 0 (c.args.row * c.args.stride) (omega arith)
+    (place-within (goal.at.write_words-requires c).Start) in
     record {
       lent = c.requires.lent;
       paced = rw c.of_image-run.ensures paced;

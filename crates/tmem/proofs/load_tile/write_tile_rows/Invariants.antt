@@ -7,7 +7,8 @@ use Rattle.tmem.proofs.load_tile.write_tile_rows.Given as goal
 
 abbrev pub invariant-loop-row : goal.invariant-loop-row
 invariant-loop-row l =
-    Counting l.rows (tile_row (load_of l.tile) l.image_siz l.words l.stride) l.src l.label (memory l.initial.bank l.initial.written l.initial.reasons) l.row
+    Counting l.rows (tile_row (load_of l.tile) l.image_siz l.words l.stride) l.src l.label
+    (memory l.initial.bank l.initial.written l.initial.reasons) l.row
     (memory l.bank l.written l.reasons) l.tally
 
 abbrev pub decreases-loop-row : goal.decreases-loop-row

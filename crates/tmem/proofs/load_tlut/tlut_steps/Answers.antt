@@ -15,7 +15,12 @@ pub overflow_sub-result : goal.overflow_sub-result
 overflow_sub-result c = covers (goal.at.overflow_sub-result c).After-tlut_entries-pixels
 
 pub overflow_add-result : goal.overflow_add-result
-overflow_add-result c = omega (arith, covers (goal.at.overflow_add-result c).After-tlut_entries-pixels, within (goal.at.overflow_add-result c).After-tlut_entries-pixels)
+overflow_add-result c = omega (
+  arith,
+  covers (goal.at.overflow_add-result c).After-tlut_entries-pixels,
+  within
+      (goal.at.overflow_add-result c).After-tlut_entries-pixels,
+)
 
 pub nonzero_div-result : goal.nonzero_div-result
 nonzero_div-result c = covers (goal.at.nonzero_div-result c).After-tlut_entries-pixels

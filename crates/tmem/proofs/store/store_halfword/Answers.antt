@@ -15,8 +15,10 @@ pub bounds-reasons-i-2 : goal.bounds-reasons-i-2
 bounds-reasons-i-2 c = simp length-set (omega arith)
 
 pub mark_in-requires : goal.mark_in-requires
-mark_in-requires c =
-    (simp (length-take, length-drop) (omega (arith, c.requires.lent.whole.whole_map, c.requires.at_lt_bank_size)), c.requires.lent.number_in)
+mark_in-requires c = (
+  simp (length-take, length-drop) (omega (arith, c.requires.lent.whole.whole_map, c.requires.at_lt_bank_size)),
+  c.requires.lent.number_in,
+)
 
 pub returns : goal.returns
 unfolding stored written stamps reasoned

@@ -8,7 +8,8 @@ use Rattle.tmem.proofs.word.write_split_word.Given as goal
 
 abbrev pub invariant-loop-i : goal.invariant-loop-i
 invariant-loop-i l =
-    Turn 2 (split_turn (split_step (load_of l.tile)) (list4 l.first.0 l.odd) l.start) (bytes_in l.word) l.label (memory l.initial.bank l.initial.written l.initial.reasons) l.i
+    Turn 2 (split_turn (split_step (load_of l.tile)) (list4 l.first.0 l.odd) l.start) (bytes_in l.word) l.label
+    (memory l.initial.bank l.initial.written l.initial.reasons) l.i
     (memory l.bank l.written l.reasons)
 
 abbrev pub decreases-loop-i : goal.decreases-loop-i

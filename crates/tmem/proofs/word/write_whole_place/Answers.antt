@@ -29,7 +29,11 @@ store_pair-requires-2 c =
     record {
       lent = c.requires.lent;
       at_lt_bank_size = c.requires.at_lt_bank_size;
-      k_bound = (omega (arith, other-within (goal.at.store_pair-requires-2 c).Else-odd-eq0), omega (arith, other-within (goal.at.store_pair-requires-2 c).Else-odd-eq0));
+      k_bound = (
+        omega (arith, other-within (goal.at.store_pair-requires-2 c).Else-odd-eq0),
+        omega
+            (arith, other-within (goal.at.store_pair-requires-2 c).Else-odd-eq0),
+      );
     }
 
 pub returns : goal.returns

@@ -8,7 +8,8 @@ use Rattle.tmem.proofs.word.write_whole_word.Given as goal
 
 abbrev pub invariant-loop-k : goal.invariant-loop-k
 invariant-loop-k l =
-    Turn 4 (whole_turn (list4 l.first.0 l.odd) (upper l.first.0) l.odd) (bytes_in l.word) l.label (memory l.initial.bank l.initial.written l.initial.reasons) l.k
+    Turn 4 (whole_turn (list4 l.first.0 l.odd) (upper l.first.0) l.odd) (bytes_in l.word) l.label
+    (memory l.initial.bank l.initial.written l.initial.reasons) l.k
     (memory l.bank l.written l.reasons)
 
 abbrev pub decreases-loop-k : goal.decreases-loop-k

@@ -45,7 +45,8 @@ loop-word-smaller c = omega arith
 
 pub loop-word-preserved : goal.loop-word-preserved
 loop-word-preserved c =
-    next_count c.loop-word.invariant c.loop-word-test.true (rw c.word-at.ensures.value at c.write_load_word-more.ensures) c.plus-tally.ensures
+    next_count c.loop-word.invariant c.loop-word-test.true (rw c.word-at.ensures.value at c.write_load_word-more.ensures)
+    c.plus-tally.ensures
 
 pub shape_of-bank : goal.shape_of-bank
 shape_of-bank c = omega arith

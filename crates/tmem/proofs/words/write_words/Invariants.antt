@@ -7,7 +7,8 @@ use Rattle.tmem.proofs.words.write_words.Given as goal
 
 abbrev pub invariant-loop-word : goal.invariant-loop-word
 invariant-loop-word l =
-    Counting l.words (run_word (load_of l.tile) l.run) l.src l.label (memory l.initial.bank l.initial.written l.initial.reasons) l.word (memory l.bank l.written l.reasons) l.tally
+    Counting l.words (run_word (load_of l.tile) l.run) l.src l.label (memory l.initial.bank l.initial.written l.initial.reasons) l.word
+    (memory l.bank l.written l.reasons) l.tally
 
 abbrev pub decreases-loop-word : goal.decreases-loop-word
 decreases-loop-word l = l.words - l.word
