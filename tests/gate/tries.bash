@@ -13,7 +13,7 @@ echo "\$PWD " >>"$room/asked"
 if [ -n "$1" ]; then echo "rt: stopped"; exit $1; fi
 if grep -q 'n + n' src/sums.rt; then
     grep -q 'self.low + self.high' src/sums.rt && exit
-    echo 'fn small::sums::Pair::sum: no proof: expected answers in ./proofs/sums/Pair/sum/Answers.antt; \`search\` did not prove \`returns\`'
+    echo 'fn small::sums::Pair::sum: no proof: expected answers in ./proofs/a; \`search\` did not prove \`returns\`'
 else
     echo './proofs/sums/twice/Answers.antt:3:5: error: \`returns\`: \`search\`: no proof of \`a\`'
     echo 'fn small::sums::Pair::sum: no proof: it calls \`small::sums::twice\`, which is not proved'
@@ -51,7 +51,7 @@ tries() {
     passes "edits: the first log names its changes" grep -qx '== with sum_of_low, twice_once' "$log"
     passes "edits: and then those that were left" grep -qx '== with sum_of_low' "$log"
     passes "edits: the crate is as it was" diff -r "$room/right/crates" "$tree/crates"
-    passes "edits: each is refused" "$ci/refused" --root "$tree" small
+    passes "edits: each is refused" judge small
     passes "edits: again" try_edits
     asked 0 "nothing has changed"
     passes "edits: anew" try_edits --anew
@@ -65,7 +65,7 @@ tries() {
 
     sed -i 's/^old: n + n/old: n + m/' "$tree/crates/small/must-fail/first.edit"
     passes "edits: a change that cannot be made" try_edits
-    fails "edits: it is told" "twice_once cannot be made: 'n + m' stands in src/sums.rt 0 times, and not once" "$ci/refused" --root "$tree" small
+    fails "edits: it is told" "twice_once cannot be made: 'n + m' stands in src/sums.rt 0 times, and not once" judge small
     right
     sed -i 's/n + n/2 * n/' "$sums"
     fails "edits: a crate that is not proved" "edits: small is not proved as it stands" try_edits
