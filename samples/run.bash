@@ -42,9 +42,9 @@ prove() {
     end_notice
 }
 
-# run_proved PROGRAM TIME TORN INPUT [ARGUMENTS..]: proves the program, and runs it on the input; `-` is standard input. A Rattle program
-# can't set its exit status. So the script ends with 1 where the program says something on standard error, where its lines can't be
-# written, and where the last of them is TORN, which stands for an input that ends inside a record.
+# run_proved PROGRAM TIME TORN INPUT [ARGUMENTS..]: proves the program, and runs it on the input; `-` is standard input. The script ends
+# with 1 where the program says something on standard error, where its lines can't be written, and where the last of them is TORN, which
+# stands for an input that ends inside a record.
 run_proved() {
     local program=$1 time=$2 torn=$3 input=$4 ended
     shift 4
@@ -58,6 +58,12 @@ run_proved() {
         awk -v torn="$torn" '{ print; last = $0 } END { if (last == torn) exit 3 }'
     ended=("${PIPESTATUS[@]}")
     set -e
+    # Where its lines are not taken, the program only says so too.
+    case ${ended[1]} in
+    0 | 3) ;;
+    141) exit 141 ;; # nobody reads on
+    *) stop 1 "the lines can't be written." ;;
+    esac
     if [ -s "$said" ]; then
         cat "$said" >&2
         exit 1
@@ -65,8 +71,6 @@ run_proved() {
     case ${ended[1]}:${ended[0]} in
     0:0) ;;
     3:*) stop 1 "the input ends inside a record." ;;
-    0:*) stop 1 "the $program ended with status ${ended[0]}." ;;
-    141:*) exit 141 ;; # nobody reads on
-    *) stop 1 "the lines can't be written." ;;
+    *) stop 1 "the $program ended with status ${ended[0]}." ;;
     esac
 }
