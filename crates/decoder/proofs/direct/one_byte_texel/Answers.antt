@@ -33,7 +33,5 @@ returns-in-16 c =
 pub returns-in_default : goal.returns-in_default
 unfolding direct given trail
 returns-in_default c =
-    rw (
-      one_else _ _ _ _ _ c.args.place c.requires.place_value (omega arith) (omega arith) (omega arith) (omega arith),
-      c.load_byte-load.ensures,
-    ) (record { channels = refl; reads = refl; few = omega arith; full = refl })
+    rw (one_else _ _ _ _ _ c.args.place c.requires.place_value (omega arith) (omega arith) (omega arith) (omega arith))
+    (record { channels = rw c.load_byte-load.ensures; reads = rw c.load_byte-load.ensures; few = omega arith; full = refl })
