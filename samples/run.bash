@@ -43,8 +43,8 @@ prove() {
 }
 
 # run_proved PROGRAM TIME TORN INPUT [ARGUMENTS..]: proves the program, and runs it on the input; `-` is standard input. The script ends
-# with 1 where the program says something on standard error, where its lines can't be written, and where the last of them is TORN, which
-# stands for an input that ends inside a record.
+# with 141 where nobody reads on, and with 1 where the lines can't be written, where the program says something on standard error, and
+# where its last line is TORN, which stands for an input that ends inside a record.
 run_proved() {
     local program=$1 time=$2 torn=$3 input=$4 ended
     shift 4
@@ -58,10 +58,9 @@ run_proved() {
         awk -v torn="$torn" '{ print; last = $0 } END { if (last == torn) exit 3 }'
     ended=("${PIPESTATUS[@]}")
     set -e
-    # Where its lines are not taken, the program only says so too.
     case ${ended[1]} in
     0 | 3) ;;
-    141) exit 141 ;; # nobody reads on
+    141) exit 141 ;;
     *) stop 1 "the lines can't be written." ;;
     esac
     if [ -s "$said" ]; then

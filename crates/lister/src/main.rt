@@ -117,7 +117,7 @@ fn piece_buffer() -> [u8; PIECE]
 
 // Room for the text.
 fn text_buffer() -> [u8; TEXT]
-    ensures { length result ≡ 65536 }
+    ensures { length result ≡ TEXT }
 {
     [0u8; TEXT]
 }

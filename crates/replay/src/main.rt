@@ -17,7 +17,7 @@ use reader::PieceReader;
 use record::numbers::four_at;
 use replaying::run::{LENGTH_AT, LINE_ROOM, OFFSET_AT, RECORD, replay_run};
 use std::fs::File;
-use std::io::{Read, Seek, Write};
+use std::io::{ErrorKind, Read, Seek, Write};
 use std::rt::Files;
 use std::{env, io};
 use tmem::bank::Bank;
@@ -306,7 +306,7 @@ fn piece_buffer() -> [u8; PIECE]
 
 // Room for the text.
 fn text_buffer() -> [u8; TEXT]
-    ensures { length result ≡ 65536 }
+    ensures { length result ≡ TEXT }
 {
     [0u8; TEXT]
 }
@@ -369,7 +369,13 @@ fn replay(rt: &(impl Files + Input + Print + Eprint + Alloc), path: &str) -> io:
 }
 
 fn main(rt: HostRuntime) -> io::Result<()> {
-    let mut args = env::args(&rt)?.skip(1);
+    let mut args = match env::args(&rt) {
+        Ok(args) => args.skip(1),
+        Err(error) if error.kind() == ErrorKind::InvalidData => {
+            return eprintln!(rt; "replay: the companion file's name is not UTF-8");
+        }
+        Err(error) => return Err(error),
+    };
     match (args.next(), args.next()) {
         (Some(path), None) => replay(&rt, path.as_str()),
         _ => eprintln!(rt; "replay: name the companion file: replay COMPANION < RECORDS"),
