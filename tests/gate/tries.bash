@@ -25,7 +25,7 @@ END
 
 # try_edits [ARGUMENTS..]: tries the edits of the crate `small`.
 try_edits() {
-    PATH=$hand:$PATH "$ci/edits" --root "$tree" "$@" small
+    PATH=$hand:$PATH XDG_CACHE_HOME=$room/cache "$ci/edits" --root "$tree" "$@" small
 }
 
 # asked NUMBER CASE: so many checks were made since the last time.
@@ -52,8 +52,13 @@ tries() {
     passes "edits: and then those that were left" grep -qx '== with sum_of_low' "$log"
     passes "edits: the crate is as it was" diff -r "$room/right/crates" "$tree/crates"
     passes "edits: each is refused" judge small
+    rm -r "$tree/target"
     passes "edits: again" try_edits
     asked 0 "nothing has changed"
+    passes "edits: each is refused by the kept log" judge small
+    sed -i 's/^rules:$/rules:\nother: rules/' "$tree/crates.txt"
+    passes "edits: another crate is listed" try_edits
+    asked 0 "another crate is listed"
     passes "edits: anew" try_edits --anew
     asked 5 "all of it anew"
     sed -i 's/^new: n$/new: n + 1/' "$tree/crates/small/must-fail/first.edit"
@@ -70,9 +75,16 @@ tries() {
     sed -i 's/n + n/2 * n/' "$sums"
     fails "edits: a crate that is not proved" "edits: small is not proved as it stands" try_edits
     right
+    mkdir -p "$room/cache/tulonkasa-edits"
+    touch -d '40 days ago' "$room/cache/tulonkasa-edits/old.log"
+    touch -d '20 days ago' "$room/cache/tulonkasa-edits/young.log"
+    passes "edits: with old logs" try_edits
+    passes "edits: what no run took for a month goes" test ! -e "$room/cache/tulonkasa-edits/old.log"
+    passes "edits: what one took stays" test -e "$room/cache/tulonkasa-edits/young.log"
     toolchain 2
     fails "edits: a check that judges nothing" "rt check ended with status 2" try_edits --anew
-    fails "edits: no such crate" "crates.txt lists no crate smal" env PATH="$hand:$PATH" "$ci/edits" --root "$tree" smal
+    toolchain ''
+    fails "edits: no such crate" "crates.txt lists no crate smal" try_edits smal
 }
 
 tries
