@@ -41,10 +41,18 @@ need_shared() {
     fi
 }
 
-# make_program NAME: proves a program of crates/ and compiles it: $root/target/bin/NAME. The toolchain compiles a program only to run it, so
-# it is run here, on nothing. Where it is not proved, what the toolchain says is shown.
+# is_made PROGRAM RT: the program was made by that toolchain, of the sources as they are.
+is_made() {
+    [ -x "$1" ] && [ "$(cat "$1.by" 2>/dev/null)" = "$2" ] &&
+        [ -z "$(find "$root/crates.txt" "$root"/crates/*/{src,specs,proofs} -newer "$1" -print -quit)" ]
+}
+
+# make_program NAME: proves a program of crates/ and compiles it, where that was not done yet: $root/target/bin/NAME. The toolchain compiles
+# a program only to run it, so it is run here, on nothing. Where it is not proved, what the toolchain says is shown.
 make_program() {
-    local folder=$root/crates/$1 to=$root/target/bin/$1 said
+    local folder=$root/crates/$1 to=$root/target/bin/$1 by said
+    by=$(readlink -f "$(command -v rt)")
+    if is_made "$to" "$by"; then return; fi
     said=$(cd "$folder" && rt run </dev/null 2>&1) || true
     if ! grep -q "^rt: running out/$1;" <<<"$said"; then
         printf '%s\n' "$said" >&2
@@ -52,6 +60,7 @@ make_program() {
     fi
     mkdir -p "$root/target/bin"
     cp "$folder/out/$1" "$to.new" && mv "$to.new" "$to"
+    printf '%s\n' "$by" >"$to.by"
 }
 
 # version: that of the header, MAJOR.MINOR.PATCH.
