@@ -13,10 +13,7 @@ mod show;
 
 use line::LENGTH;
 use std::io;
-use std::io::{BufReader, BufWriter, ErrorKind, Read, Write};
-
-// What is read and written at a time, in bytes.
-const PIECE: usize = 65536;
+use std::io::{ErrorKind, Read, Write};
 
 // The case of a line, by its letter.
 fn run<W: Write>(output: &mut W, case: &[u8]) -> io::Result<()> {
@@ -40,8 +37,8 @@ fn run_next<R: Read, W: Write>(input: &mut R, output: &mut W) -> io::Result<()> 
 
 // A thousand lines at most.
 fn main(rt: HostRuntime) -> io::Result<()> {
-    let mut input = BufReader::with_capacity(rt.alloc(), PIECE, rt.stdin())?;
-    let mut output = BufWriter::with_capacity(rt.alloc(), PIECE, rt.stdout())?;
+    let mut input = rt.stdin();
+    let mut output = rt.stdout();
     for _ in 0..1000u32 {
         run_next(&mut input, &mut output)?;
     }

@@ -7,10 +7,7 @@ mod cases;
 mod record;
 
 use std::io;
-use std::io::{BufReader, ErrorKind, Read};
-
-// What is read at a time, in bytes.
-const PIECE: usize = 65536;
+use std::io::{ErrorKind, Read};
 
 // What was found so far, the digest of all bytes so far, and whether the last record was the end record with the digest of all
 // bytes before its own.
@@ -91,6 +88,6 @@ fn report(rt: &impl Print, t: Tally) -> io::Result<()> {
 }
 
 fn main(rt: HostRuntime) -> io::Result<()> {
-    let mut input = BufReader::with_capacity(rt.alloc(), PIECE, rt.stdin())?;
+    let mut input = rt.stdin();
     report(&rt, replay(&mut input)?)
 }
