@@ -1,6 +1,8 @@
 -- Two answers that the contract of a public function allows are the same, and so is what they leave in the lent buffers.
 use mathlib.Core.Path.{◌≡◌}
 use Rattle.rules.proofs.Refused.{determined}
+use Rattle.rdp.proofs.Determined.{tested_determined}
+use Rattle.rdp.proofs.refusal.Refusal.number.Reads as number
 use Rattle.rdp.proofs.refusal.refuse.Reads as refuse
 use Rattle.rdp.proofs.tile.TileDescriptor.load_fields_outside.Reads as load_fields_outside
 use Rattle.rdp.proofs.tile.TileDescriptor.outside.Reads as outside
@@ -9,14 +11,17 @@ use Rattle.rdp.proofs.tile.TileDescriptor.row_start.Reads as row_start
 use Rattle.rdp.proofs.tile.sides_outside.Reads as sides_outside
 use Rattle.rdp.proofs.tile.mode_outside.Reads as mode_outside
 use Rattle.rdp.proofs.tile.lane_outside.Reads as lane_outside
-use Rattle.rdp.proofs.tile.tile_and_mode_refusal.Reads as tile_and_mode_refusal
+use Rattle.rdp.proofs.tile.check_tile_and_mode.Reads as check_tile_and_mode
 use Rattle.rdp.proofs.units.WordAddr.bytes.Reads as word_addr_bytes
 use Rattle.rdp.proofs.units.WordAddr.row.Reads as row
 use Rattle.rdp.proofs.units.LineWords.bytes.Reads as line_words_bytes
 use Rattle.rdp.proofs.units.swap_odd_line.Reads as swap_odd_line
 
+pub number_one : (w : _) (a : _) (r s : _) (e f : _) → number.Post w a r e → number.Post w a s f → r ≡ s
+number_one w a r s e f p q = determined p q
+
 pub refuse_one : (w : _) (a : _) (r s : _) (e f : _) → refuse.Post w a r e → refuse.Post w a s f → r ≡ s
-refuse_one w a r s e f p q = determined p q
+refuse_one w a r s e f p q = tested_determined _ r s p q
 
 pub load_fields_outside-one : (w : _) (a : _) (r s : _) (e f : _) → load_fields_outside.Post w a r e → load_fields_outside.Post w a s f
     → r ≡ s
@@ -40,9 +45,9 @@ mode_outside-one w a r s e f p q = determined p q
 pub lane_outside-one : (w : _) (a : _) (r s : _) (e f : _) → lane_outside.Post w a r e → lane_outside.Post w a s f → r ≡ s
 lane_outside-one w a r s e f p q = determined p q
 
-pub tile_and_mode_refusal_one : (w : _) (a : _) (r s : _) (e f : _) → tile_and_mode_refusal.Post w a r e
-    → tile_and_mode_refusal.Post w a s f → r ≡ s
-tile_and_mode_refusal_one w a r s e f p q = determined p q
+pub check_tile_and_mode_one : (w : _) (a : _) (r s : _) (e f : _) → check_tile_and_mode.Post w a r e
+    → check_tile_and_mode.Post w a s f → r ≡ s
+check_tile_and_mode_one w a r s e f p q = tested_determined _ r s p q
 
 pub word_addr_bytes_one : (w : _) (a : _) (r s : _) (e f : _) → word_addr_bytes.Post w a r e → word_addr_bytes.Post w a s f → r ≡ s
 word_addr_bytes_one w a r s e f p q = λ i. record { 0 = determined p q i }

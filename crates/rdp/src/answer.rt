@@ -1,99 +1,63 @@
-// What the public calls answer: a refusal, 0 for none, and the call's numbers. Where it refused they are 0, but the number of the last
-// load, which is then the one passed.
-
-// A picture's count of reads, a key's count of kept bytes, a written file's count of bytes.
-#[repr(C)]
-#[derive(Clone, Copy)]
-pub struct Answer {
-    pub refusal: u32,
-    pub count: u32,
-}
+// What the public calls answer beside a refusal, where it is more than one number.
 
 // A load's count of stores, how many of their bytes came from past the source's end, and its number.
-#[repr(C)]
 #[derive(Clone, Copy)]
-pub struct LoadAnswer {
-    pub refusal: u32,
+pub struct Loaded {
     pub count: u32,
     pub made_up: u32,
     pub number: u32,
 }
 
 // A replayed record's count of stores, or of kept bytes, and the number of the last load after it.
-#[repr(C)]
 #[derive(Clone, Copy)]
-pub struct ReplayAnswer {
-    pub refusal: u32,
+pub struct Replayed {
     pub count: u32,
     pub number: u32,
 }
 
 // The width and height of a picture that was read from a file.
-#[repr(C)]
 #[derive(Clone, Copy)]
-pub struct SizeAnswer {
-    pub refusal: u32,
+pub struct Size {
     pub width: u32,
     pub height: u32,
 }
 
 // How many entries are on each side.
-#[repr(C)]
 #[derive(Clone, Copy)]
-pub struct SplitAnswer {
-    pub refusal: u32,
+pub struct Sides {
     pub tuning: u32,
     pub held_out: u32,
 }
 
-// A yes (1) or a no (0).
-#[repr(C)]
-#[derive(Clone, Copy)]
-pub struct YesAnswer {
-    pub refusal: u32,
-    pub yes: u32,
+// What is wrong at an address of an offered key.
+#[derive(Clone, Copy, Debug, PartialEq, Eq)]
+pub enum Wrong {
+    // The byte is missing.
+    Missing = 1,
+    // It is left over.
+    LeftOver = 2,
+    // It has another value.
+    AnotherValue = 3,
 }
 
-// The first reason among the bytes that a tile asks for, 0 for none.
-#[repr(C)]
+// The lowest wrong address of an offered key, and what is wrong there.
 #[derive(Clone, Copy)]
-pub struct ReasonAnswer {
-    pub refusal: u32,
-    pub reason: u32,
-}
-
-// Whether an offered key is right (1) or not (0); where it is not, the lowest wrong address and what is wrong there: 1 missing, 2 left
-// over, 3 another value.
-#[repr(C)]
-#[derive(Clone, Copy)]
-pub struct CheckAnswer {
-    pub refusal: u32,
-    pub yes: u32,
+pub struct Fault {
     pub address: u32,
-    pub wrong: u32,
+    pub wrong: Wrong,
 }
 
-// The sampling flag, and the allocation extent.
-#[repr(C)]
+// Whether a tile calls for its lookup, and the extent to allocate for the picture.
 #[derive(Clone, Copy)]
-pub struct SamplingAnswer {
-    pub refusal: u32,
-    pub flag: u32,
+pub struct Sampled {
+    pub lookup: bool,
     pub width: u32,
     pub height: u32,
 }
 
-// Where a text that was written into a lent buffer ends.
-#[derive(Clone, Copy)]
-pub struct TextAnswer {
-    pub refusal: u32,
-    pub end: usize,
-}
-
 // How many records of a run were replayed, where their text ends, and the number of the last load after them.
 #[derive(Clone, Copy)]
-pub struct RunAnswer {
-    pub refusal: u32,
+pub struct Run {
     pub records: usize,
     pub end: usize,
     pub number: u32,

@@ -5,9 +5,10 @@ ghost use Rattle.rules.specs.Calls.{sampling_tests};
 ghost use Rattle.rules.specs.Picture.{column, row_start};
 ghost use Rattle.rules.specs.Refusal.{first};
 ghost use Rattle.rules.specs.Tile.{load_fields_outside, sides_outside, tile_outside, mode_outside, lane_outside};
+ghost use Rattle.rdp.specs.Refused.{refusal_of};
 ghost use Rattle.rdp.specs.View.{tile_of};
 
-use crate::refusal;
+use crate::refusal::{Refusal, refuse};
 use crate::units::{LineWords, WordAddr};
 
 // The largest width and height.
@@ -96,14 +97,9 @@ pub fn lane_outside(lane: u32) -> bool
 }
 
 // The refusal of a call on a tile in a mode: 2, then 3.
-pub fn tile_and_mode_refusal(tile: TileDescriptor, mode: u32) -> u32
-    ensures { result ≡ first (sampling_tests (tile_of tile) mode) }
+pub fn check_tile_and_mode(tile: TileDescriptor, mode: u32) -> Result<(), Refusal>
+    ensures { refusal_of result ≡ first (sampling_tests (tile_of tile) mode) }
 {
-    if tile.outside() {
-        return refusal::TILE;
-    }
-    if mode_outside(mode) {
-        return refusal::MODE_OR_LANE;
-    }
-    0
+    refuse(Refusal::Tile, tile.outside())?;
+    refuse(Refusal::ModeOrLane, mode_outside(mode))
 }
