@@ -3,5 +3,6 @@ pub mod Halves
 pub mod Nibbles
 pub mod One
 pub mod Palettes
+pub mod Pictures
 pub mod Ready
 pub mod Sizes

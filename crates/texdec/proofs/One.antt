@@ -1,6 +1,7 @@
 -- Two answers that the contract of a public function allows are the same, and so is what they leave in the lent buffers.
 use mathlib.Core.Path.{◌≡◌}
 use Rattle.rules.proofs.Refused.{determined}
+use Rattle.texdec.proofs.Pictures.{same_answer}
 use Rattle.texdec.proofs.entry.decode_rgba16_entry.Reads as decode_rgba16_entry
 use Rattle.texdec.proofs.entry.decode_ia16_entry.Reads as decode_ia16_entry
 use Rattle.texdec.proofs.entry.decode_ci16_entry.Reads as decode_ci16_entry
@@ -13,7 +14,7 @@ use Rattle.texdec.proofs.ia8.ia8_table.Reads as ia8_table
 use Rattle.texdec.proofs.nibble.nibble.Reads as nibble
 use Rattle.texdec.proofs.nibble.decode_i4.Reads as decode_i4
 use Rattle.texdec.proofs.nibble.decode_ia4.Reads as decode_ia4
-use Rattle.texdec.proofs.pair.pair_refusal.Reads as pair_refusal
+use Rattle.texdec.proofs.pair.Picture.new.Reads as new
 use Rattle.texdec.proofs.palette.index_part.Reads as index_part
 use Rattle.texdec.proofs.palette.palette_index.Reads as palette_index
 use Rattle.texdec.proofs.rgba16.rgba16_halves.Reads as rgba16_halves
@@ -57,8 +58,8 @@ decode_i4_one w a r s e f p q = determined p q
 pub decode_ia4_one : (w : _) (a : _) (r s : _) (e f : _) → decode_ia4.Post w a r e → decode_ia4.Post w a s f → r ≡ s
 decode_ia4_one w a r s e f p q = determined p q
 
-pub pair_refusal_one : (w : _) (a : _) (r s : _) (e f : _) → pair_refusal.Post w a r e → pair_refusal.Post w a s f → r ≡ s
-pair_refusal_one w a r s e f p q = determined p q
+pub new_one : (w : _) (a : _) (r s : _) (e f : _) → new.Post w a r e → new.Post w a s f → r ≡ s
+new_one w a r s e f p q = same_answer _ a.0 a.1.0 a.1.1.0 r s p.0 q.0 p.1 q.1
 
 pub index_part-one : (w : _) (a : _) (r s : _) (e f : _) → index_part.Post w a r e → index_part.Post w a s f → r ≡ s
 index_part-one w a r s e f p q = determined p q

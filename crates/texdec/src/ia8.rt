@@ -42,12 +42,7 @@ const IA8: [u32; 256] = [
 pub fn texel_bytes(texel: u32) -> [u8; 4]
     ensures { result ≡ channels texel }
 {
-    [
-        (texel % 256) as u8,
-        ((texel >> 8) % 256) as u8,
-        ((texel >> 16) % 256) as u8,
-        ((texel >> 24) % 256) as u8,
-    ]
+    texel.to_le_bytes()
 }
 
 // The table, for a caller that reads many texels of it: a constant is written out anew wherever it is used.

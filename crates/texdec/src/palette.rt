@@ -5,7 +5,8 @@ ghost use Rattle.rules.specs.Texdec.{index_part, part_index};
 use crate::nibble::nibble;
 
 // The part of its byte that a tile's index is: the whole of it, the nibble that x takes, or, for format 1, the high nibble.
-// Pairs of format and size have the numbers below 32 (4 times format, and size), so that no part is taken for a pair.
+// They are numbers, since `palette_index` answers for every number, as `part_index` does. Pairs of format and size have the numbers
+// below 32 (4 times format, and size), so that no part is taken for a pair.
 pub const WHOLE_BYTE: u32 = 32;
 
 pub const NIBBLE: u32 = 33;
