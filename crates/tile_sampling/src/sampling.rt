@@ -4,7 +4,8 @@ ghost use Rattle.rules.specs.Calls.{sampling_call};
 ghost use Rattle.rules.specs.Sampling.{repeats, past_size, flag};
 ghost use Rattle.rdp.specs.View.{tile_of, sampling_answered};
 
-use rdp::answer::SamplingAnswer;
+use rdp::answer::Sampled;
+use rdp::refusal::Refusal;
 use rdp::tile;
 use rdp::tile::TileDescriptor;
 
@@ -23,13 +24,6 @@ pub struct Extent {
     pub height: u32,
 }
 
-// A size of at least 1.
-fn at_least_one(size: u32) -> u32
-    ensures { result ≡ max size 1 }
-{
-    if size == 0 { 1 } else { size }
-}
-
 // 2^mask exceeds the size. A mask above 31 exceeds every size.
 fn exceeds(mask: u32, size: u32) -> bool
     ensures { result ≡ ltb (max size 1) (2 ^ mask) }
@@ -37,7 +31,7 @@ fn exceeds(mask: u32, size: u32) -> bool
     if 31 < mask {
         return true;
     }
-    at_least_one(size) < 1u32 << mask
+    size.max(1) < 1u32 << mask
 }
 
 // The axis repeats: it has a mask, and the clamp bit is clear.
@@ -81,8 +75,8 @@ impl TileSampling {
     {
         TileSampling {
             lookup: is_lookup(tile, tlut),
-            width: at_least_one(tile.width),
-            height: at_least_one(tile.height),
+            width: tile.width.max(1),
+            height: tile.height.max(1),
         }
     }
 
@@ -104,24 +98,15 @@ impl TileSampling {
 }
 
 // Flag and allocation extent of a tile in a mode, or the refusal (2, 3).
-pub fn sampling(tile: TileDescriptor, tlut: u32) -> SamplingAnswer
+pub fn sampling(tile: TileDescriptor, tlut: u32) -> Result<Sampled, Refusal>
     ensures { sampling_answered result ≡ sampling_call (tile_of tile) tlut }
 {
-    let no = tile::tile_and_mode_refusal(tile, tlut);
-    if no != 0 {
-        return SamplingAnswer {
-            refusal: no,
-            flag: 0,
-            width: 0,
-            height: 0,
-        };
-    }
+    tile::check_tile_and_mode(tile, tlut)?;
     let found = TileSampling::from_tile(tile, tlut);
     let extent = found.allocation_extent();
-    SamplingAnswer {
-        refusal: 0,
-        flag: found.lookup as u32,
+    Ok(Sampled {
+        lookup: found.lookup,
         width: extent.width,
         height: extent.height,
-    }
+    })
 }

@@ -17,4 +17,4 @@ returns-then-mask-gt31 c =
 pub returns : goal.returns
 returns c =
     let mask : ℕ = c.args.mask in
-    rw (c.at_least_one.ensures, agree_below 32 (λ k. 1 * 2 ^ k % 4294967296) (λ k. 2 ^ k) tt mask (omega arith))
+    rw (c.max.ensures, agree_below 32 (λ k. 1 * 2 ^ k % 4294967296) (λ k. 2 ^ k) tt mask (omega arith))
