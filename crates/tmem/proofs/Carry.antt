@@ -1,4 +1,5 @@
 -- Laws of stores that are carried out: one list after the other, a table's entry at a time, and no length changes.
+use denote.Ref.{at_last}
 use mathlib.Core.Path.{◌≡◌, refl, ap, sym, ◌∙◌}
 use mathlib.Core.List.{List, [], ◌∷◌, ◌++◌}
 use Prim.Native.Nat.{ℕ, zero, suc, ◌+◌, ◌*◌, ◌/◌, ◌%◌, ◌<◌, ◌≤◌}
@@ -10,47 +11,42 @@ use lib.Seq.{set_comm}
 use Rattle.rules.specs.Base.{tab, tab_from, concat, how_many, stamped, stamps}
 use Rattle.rules.specs.Load.{Store, stored, written, reasoned, made_up}
 use Rattle.rules.proofs.Tables.{concat-more}
-use Rattle.rules.proofs.Loads.{stored-append, written-append, length-stored, length-written}
-use Rattle.rules.proofs.Reasons.{reasoned-append, length-reasoned}
+use Rattle.rules.proofs.Loads.{stored-append, written-append}
+use Rattle.rules.proofs.Reasons.{reasoned-append}
 use Rattle.rules.proofs.MadeUp.{made_up_within, made_up-append}
-use Rattle.tmem.specs.declared.label.Label.{Label}
+use Rattle.tmem.specs.declared.memory.Memory.{Memory}
 use Rattle.tmem.specs.declared.tally.Tally.{Tally}
-use Rattle.tmem.specs.Part.{Memory, Lent, CarriedOut, Counted, tally_of, no_tally, plus_tally}
+use Rattle.tmem.specs.Part.{Carried, Counted, tally_of, no_tally, plus_tally}
 
-module _ {src : List ℕ} {label : Label} {m : Memory} where
-  none : CarriedOut src [] label m m
+module _ {src : List ℕ} {m : Memory} where
+  none : Carried src [] m m
   unfolding stored written stamps reasoned
-  none = record { bank_is = refl; map_is = refl; reasons_is = refl }
+  none = record { bank_is = refl; map_is = refl; reasons_is = refl; label_is = refl }
 
-  pub after : {l k : List Store} {m' m'' : Memory}
-      → CarriedOut src l label m m'
-      → CarriedOut src k label m' m''
-      → CarriedOut src (l ++ k) label m m''
+  pub after : {l k : List Store} {m' m'' : Memory} → Carried src l m m' → Carried src k m' m'' → Carried src (l ++ k) m m''
   after {l} {k} p q =
       record {
-        bank_is = rw (q.bank_is, p.bank_is) (sym (stored-append src l k m.bank));
-        map_is = rw (q.map_is, p.map_is) (sym (written-append label.number l k m.map));
-        reasons_is = rw (q.reasons_is, p.reasons_is) (sym (reasoned-append label.reason l k m.reasons));
+        bank_is =
+            q.bank_is
+            ∙ ap (λ x. at_last x (stored src k x.now)) p.bank_is
+            ∙ ap (at_last m.bank) (sym (stored-append src l k m.bank.now));
+        map_is =
+            q.map_is
+            ∙ (λ i. at_last (p.map_is i) (written (p.label_is i).number k (p.map_is i).now))
+            ∙ ap (at_last m.written) (sym (written-append m.label.number l k m.written.now));
+        reasons_is =
+            q.reasons_is
+            ∙ (λ i. at_last (p.reasons_is i) (reasoned (p.label_is i).reason k (p.reasons_is i).now))
+            ∙ ap (at_last m.reasons) (sym (reasoned-append m.label.reason l k m.reasons.now));
+        label_is = q.label_is ∙ p.label_is;
       }
 
   -- the lists of a table, and one more
   one_more : (f : ℕ → List Store) (n : ℕ) {m' m'' : Memory}
-      → CarriedOut src (concat (tab n f)) label m m'
-      → CarriedOut src (f n) label m' m''
-      → CarriedOut src (concat (tab (n + 1) f)) label m m''
+      → Carried src (concat (tab n f)) m m'
+      → Carried src (f n) m' m''
+      → Carried src (concat (tab (n + 1) f)) m m''
   one_more f n p q = rw concat-more (after p q)
-
-  still_lent : {l : List Store} {m' : Memory} → Lent m label → CarriedOut src l label m m' → Lent m' label
-  still_lent {l} w p =
-      record {
-        whole =
-            record {
-              whole_bank = rw (p.bank_is, length-stored) w.whole.whole_bank;
-              whole_map = rw (p.map_is, length-written) w.whole.whole_map;
-              whole_reasons = rw (p.reasons_is, length-reasoned) w.whole.whole_reasons;
-            };
-        number_in = w.number_in;
-      }
 
 -- two stores in a row at other addresses may change places
 stamped_swap : (n : ℕ) (m : List ℕ) (a b : ℕ) → (a ≡ b → ⊥) → stamped n (stamped n m a) b ≡ stamped n (stamped n m b) a
@@ -63,56 +59,51 @@ stamped_swap n m a b h =
     ∙ ap (λ l. set (set l (2 * b + 1) y) (2 * a + 1) y) (set_comm m (2 * a) (2 * b) x x (λ e. h (omega arith)))
     ∙ ap (λ l. set l (2 * a + 1) y) (set_comm (set m (2 * b) x) (2 * a) (2 * b + 1) x y (λ e. omega arith))
 
-pub exchanged : {src : List ℕ} {label : Label} {m m' : Memory} (s t u v : Store) → (t.at ≡ u.at → ⊥)
-    → CarriedOut src (s ∷ t ∷ u ∷ v ∷ []) label m m'
-    → CarriedOut src (s ∷ u ∷ t ∷ v ∷ []) label m m'
+pub exchanged : {src : List ℕ} {m m' : Memory} (s t u v : Store) → (t.at ≡ u.at → ⊥)
+    → Carried src (s ∷ t ∷ u ∷ v ∷ []) m m'
+    → Carried src (s ∷ u ∷ t ∷ v ∷ []) m m'
 unfolding stored written stamps reasoned
-exchanged {src} {label} {m} s t u v h p =
+exchanged {src} {m} s t u v h p =
     record {
       bank_is =
           p.bank_is
-          ∙ ap (λ b. set b v.at (byte v))
-          (set_comm (set m.bank s.at (byte s)) t.at u.at (byte t) (byte u) h);
+          ∙ ap (λ b. at_last m.bank (set b v.at (byte v)))
+          (set_comm (set m.bank.now s.at (byte s)) t.at u.at (byte t) (byte u) h);
       map_is =
-          p.map_is ∙ ap (λ l. stamped n l v.at) (stamped_swap n (stamped n m.map s.at) t.at u.at h);
+          p.map_is ∙ ap (λ l. at_last m.written (stamped n l v.at)) (stamped_swap n (stamped n m.written.now s.at) t.at u.at h);
       reasons_is =
-          p.reasons_is ∙ ap (λ l. set l v.at why) (set_comm (set m.reasons s.at why) t.at u.at why why h);
+          p.reasons_is ∙ ap (λ l. at_last m.reasons (set l v.at why)) (set_comm (set m.reasons.now s.at why) t.at u.at why why h);
+      label_is = p.label_is;
     }
   where
     byte : Store → ℕ
     byte x = get_or src x.from 0
 
     n : ℕ
-    n = label.number
+    n = m.label.number
 
     why : ℕ
-    why = label.reason
+    why = m.label.reason
 
 -- A loop that carries out the lists of a table, f 0 to f (n - 1), before turn i.
-pub record Turn (n : ℕ) (f : ℕ → List Store) (src : List ℕ) (label : Label) (m : Memory) (i : ℕ) (m' : Memory) : Type 0 where
+pub record Turn (n : ℕ) (f : ℕ → List Store) (src : List ℕ) (m : Memory) (i : ℕ) (m' : Memory) : Type 0 where
   pub turns : i ≤ n
-  pub so_far : CarriedOut src (concat (tab i f)) label m m'
-  pub lent : Lent m' label
+  pub so_far : Carried src (concat (tab i f)) m m'
 
-module _ {n : ℕ} {f : ℕ → List Store} {src : List ℕ} {label : Label} {m : Memory} where
-  pub begin : Lent m label → Turn n f src label m 0 m
+module _ {n : ℕ} {f : ℕ → List Store} {src : List ℕ} {m : Memory} where
+  pub begin : Turn n f src m 0 m
   unfolding tab tab_from concat
-  begin w = record { turns = omega arith; so_far = none; lent = w }
+  begin = record { turns = omega arith; so_far = none }
 
-  pub next : {i : ℕ} {m' m'' : Memory}
-      → Turn n f src label m i m'
-      → i < n
-      → CarriedOut src (f i) label m' m''
-      → Turn n f src label m (i + 1) m''
-  next {i} t h q = record { turns = omega arith; so_far = one_more f i t.so_far q; lent = still_lent t.lent q }
+  pub next : {i : ℕ} {m' m'' : Memory} → Turn n f src m i m' → i < n → Carried src (f i) m' m'' → Turn n f src m (i + 1) m''
+  next {i} t h q = record { turns = omega arith; so_far = one_more f i t.so_far q }
 
-  pub finish : {i : ℕ} {m' : Memory} → Turn n f src label m i m' → n ≤ i → CarriedOut src (concat (tab n f)) label m m'
+  pub finish : {i : ℕ} {m' : Memory} → Turn n f src m i m' → n ≤ i → Carried src (concat (tab n f)) m m'
   finish {i} t h = let e : i ≡ n = omega arith in rw e at t.so_far
 
 -- The same loop where it counts its stores.
-pub record Counting (n : ℕ) (f : ℕ → List Store) (src : List ℕ) (label : Label) (m : Memory) (i : ℕ) (m' : Memory) (tally : Tally)
-    : Type 0 where
-  pub turn : Turn n f src label m i m'
+pub record Counting (n : ℕ) (f : ℕ → List Store) (src : List ℕ) (m : Memory) (i : ℕ) (m' : Memory) (tally : Tally) : Type 0 where
+  pub turn : Turn n f src m i m'
   pub counted : tally ≡ tally_of (length src) (concat (tab i f))
 
 -- lists one after the other have their tallies' sum
@@ -129,26 +120,26 @@ table-length f g e (suc n) =
     ∙ length-append (concat (tab n f)) (f n)
     ∙ rw (table-length f g e n, e n) (sym (suc-mul n g))
 
-module _ {n : ℕ} {f : ℕ → List Store} {src : List ℕ} {label : Label} {m : Memory} where
-  pub begin_count : {tally : Tally} → Lent m label → tally ≡ no_tally → Counting n f src label m 0 m tally
+module _ {n : ℕ} {f : ℕ → List Store} {src : List ℕ} {m : Memory} where
+  pub begin_count : {tally : Tally} → tally ≡ no_tally → Counting n f src m 0 m tally
   unfolding tab tab_from concat made_up how_many
-  begin_count w e = record { turn = begin w; counted = e }
+  begin_count e = record { turn = begin; counted = e }
 
   pub finish_count : {i : ℕ} {tally : Tally} {m' : Memory}
-      → Counting n f src label m i m' tally
+      → Counting n f src m i m' tally
       → n ≤ i
-      → Counted src (concat (tab n f)) label m m' tally
+      → Counted src (concat (tab n f)) m m' tally
   finish_count {i} t h =
       let e : i ≡ n = omega (arith, t.turn.turns) in
       record { carried = finish t.turn h; tally_is = rw e at t.counted }
 
   -- the next list
-  module _ {i : ℕ} {tally more : Tally} {m' m'' : Memory} (t : Counting n f src label m i m' tally) (h : i < n)
-      (q : Counted src (f i) label m' m'' more) where
+  module _ {i : ℕ} {tally more : Tally} {m' m'' : Memory} (t : Counting n f src m i m' tally) (h : i < n)
+      (q : Counted src (f i) m' m'' more) where
     joined : plus_tally tally more ≡ tally_of (length src) (concat (tab (i + 1) f))
     joined = rw (concat-more i f, t.counted, q.tally_is) (tally_append (length src) (concat (tab i f)) (f i))
 
-    pub next_count : {both : Tally} → both ≡ plus_tally tally more → Counting n f src label m (i + 1) m'' both
+    pub next_count : {both : Tally} → both ≡ plus_tally tally more → Counting n f src m (i + 1) m'' both
     next_count e = record { turn = next t.turn h q.carried; counted = e ∙ joined }
 
     -- what is counted stays below a bound of the lists times one of their lengths, and what is made up is no more
@@ -161,3 +152,34 @@ module _ {n : ℕ} {f : ℕ → List Store} {src : List ℕ} {label : Label} {m 
         let count : tally.count + more.count ≡ length l = ap (λ (a : Tally). a.count) joined in
         let made : tally.made_up + more.made_up ≡ made_up (length src) l = ap (λ (a : Tally). a.made_up) joined in
         (omega (arith, all, few, count), omega (arith, all, few, made, made_up_within (length src) l))
+
+-- A memory of its own borrows another's lists under names of its own. What it leaves stands behind the other's references.
+pub on_loan : {src : List ℕ} {l : List Store} (m : Memory) {n n' : Memory} {tally : Tally}
+    → n.bank.now ≡ m.bank.now
+    → n.written.now ≡ m.written.now
+    → n.reasons.now ≡ m.reasons.now
+    → n.label ≡ m.label
+    → Counted src l n n' tally
+    → Counted src l m
+    (record {
+      bank = at_last m.bank n'.bank.now;
+      written = at_last m.written n'.written.now;
+      reasons = at_last m.reasons n'.reasons.now;
+      label = m.label;
+    })
+    tally
+on_loan {src} {l} m b w r e q =
+    record {
+      carried =
+          record {
+            bank_is = ap (λ x. at_last m.bank x.now) q.carried.bank_is ∙ ap (λ x. at_last m.bank (stored src l x)) b;
+            map_is =
+                ap (λ x. at_last m.written x.now) q.carried.map_is
+                ∙ (λ i. at_last m.written (written (e i).number l (w i)));
+            reasons_is =
+                ap (λ x. at_last m.reasons x.now) q.carried.reasons_is
+                ∙ (λ i. at_last m.reasons (reasoned (e i).reason l (r i)));
+            label_is = refl;
+          };
+      tally_is = q.tally_is;
+    }

@@ -1,18 +1,24 @@
 -- The numbers of a halfword: they keep the record's length, and go into the part of it that starts with them.
-use mathlib.Core.Path.{◌≡◌, ap, ◌∙◌}
-use mathlib.Core.List.{List, [], ◌++◌, append-nil}
-use Prim.Native.Nat.{ℕ, ◌+◌, ◌-◌, ◌*◌, ◌/◌, ◌%◌}
+use mathlib.Core.Path.{◌≡◌, refl, ap, ◌∙◌}
+use mathlib.Core.List.{List, [], ◌∷◌, ◌++◌}
+use Prim.Native.Nat.{ℕ, ◌+◌, ◌*◌, ◌/◌, ◌%◌, ◌≤◌}
 use native.Mathlib.Omega.{arith}
-use native.Mathlib.Nat.{le_of_eq}
-use lib.ListN.{length, set, take, drop, length-drop, drop_of_length-le, take-append-drop}
+use lib.ListN.{length, set, take, drop, length-drop, take-append-drop}
 use lib.Seq.{drop-set-add, take-set-le}
 use Rattle.rules.specs.Base.{stamped}
-use Rattle.rules.proofs.Numbers.{length-stamped}
-use Rattle.rules.proofs.Over.{rest_is}
-use Rattle.tmem.specs.Marks.{both_stamped}
 
-pub length_both : (n : ℕ) (m : List ℕ) (a : ℕ) → length (both_stamped n m a) ≡ length m
-length_both n m a = length-stamped n (stamped n m a) (a + 1) ∙ length-stamped n m a
+-- address a and the next have the number n
+abbrev pub both_stamped : ℕ → List ℕ → ℕ → List ℕ
+both_stamped n m a = stamped n (stamped n m a) (a + 1)
+
+-- of a part that starts with them
+front : (n : ℕ) (l : List ℕ) → 4 ≤ length l → n / 256 ∷ n % 256 ∷ n / 256 ∷ n % 256 ∷ drop 4 l ≡ both_stamped n l 0
+unfolding stamped
+front n (a ∷ b ∷ c ∷ d ∷ l) h = refl
+front n [] h = absurd (omega arith)
+front n (a ∷ []) h = absurd (omega arith)
+front n (a ∷ b ∷ []) h = absurd (omega arith)
+front n (a ∷ b ∷ c ∷ []) h = absurd (omega arith)
 
 module _ (n : ℕ) (m : List ℕ) (a : ℕ) where
   -- what comes before the halfword's numbers stays
@@ -39,12 +45,10 @@ module _ (n : ℕ) (m : List ℕ) (a : ℕ) where
       ∙ ap (λ x. set (set x 2 h) 3 l) (drop-set-add (2 * a) _ 1 l)
       ∙ ap (λ x. set (set (set x 1 l) 2 h) 3 l) (drop-set-add (2 * a) m 0 h)
 
-  -- so a part that is lent from there on comes back with them
-  pub both_back : (ys : List ℕ) → ys ≡ both_stamped n (take (length m - 2 * a) (drop (2 * a) m)) 0
-      → take (2 * a) m ++ (ys ++ drop (length m - 2 * a) (drop (2 * a) m)) ≡ both_stamped n m a
-  both_back ys e =
-      let none : drop (length m - 2 * a) (drop (2 * a) m) ≡ [] =
-      drop_of_length-le (drop (2 * a) m) (le_of_eq (length-drop (2 * a) m)) in
+  -- so a part of four bytes that is lent from there on comes back with them
+  pub both_back : 2 * a + 4 ≤ length m → take (2 * a) m ++ (n / 256 ∷ n % 256 ∷ n / 256 ∷ n % 256 ∷ drop 4 (drop (2 * a) m))
+      ≡ both_stamped n m a
+  both_back long =
       let whole : take (2 * a) (both_stamped n m a) ++ drop (2 * a) (both_stamped n m a) ≡ both_stamped n m a =
       take-append-drop (2 * a) (both_stamped n m a) in
-      rw (none, append-nil, e, rest_is (2 * a) m, ← from_there, ← before) whole
+      rw (front n (drop (2 * a) m) (omega (arith, length-drop (2 * a) m)), ← from_there, ← before) whole

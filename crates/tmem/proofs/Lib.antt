@@ -6,6 +6,7 @@ pub mod Indices
 pub mod Places
 pub mod PastEnd
 pub mod EightBytes
+pub mod Taken
 pub mod Rows
 pub mod Runs
 pub mod Within

@@ -12,8 +12,8 @@ use Rattle.rules.specs.Base.{tab, tab_from, concat}
 use Rattle.rules.specs.Load.{Store, store, LoadTile, halfword, base, first_spot, odd_spot, list4, splits, upper}
 use Rattle.rules.specs.Load.{split_stores, whole_stores, word_stores}
 use Rattle.rules.proofs.Loads.{split_by, either_shape}
-use Rattle.tmem.specs.declared.label.Label.{Label}
-use Rattle.tmem.specs.Part.{Memory, Spots, half_stores, split_step, split_four, CarriedOut}
+use Rattle.tmem.specs.declared.memory.Memory.{Memory}
+use Rattle.tmem.specs.Part.{Spots, half_stores, split_step, split_four, Carried}
 use Rattle.tmem.proofs.Carry.{exchanged}
 use Rattle.tmem.proofs.Indices.{start_below}
 
@@ -27,11 +27,11 @@ split_turn step l start j =
     ∷ []
 
 -- made a halfword at a time they come to the same, as the halves are far apart
-pub split_turn_lem : {src : List ℕ} {label : Label} {m m' : Memory} (a step : ℕ) (l : List ℕ) (start j : ℕ)
+pub split_turn_lem : {src : List ℕ} {m m' : Memory} (a step : ℕ) (l : List ℕ) (start j : ℕ)
     → a ≡ get_or l (start + j) 0
     → a % 2 ≡ 0
-    → CarriedOut src (split_four step a (4 * j)) label m m'
-    → CarriedOut src (split_turn step l start j) label m m'
+    → Carried src (split_four step a (4 * j)) m m'
+    → Carried src (split_turn step l start j) m m'
 split_turn_lem a step l start j e h p =
     let up : a + 1 + 2048 ≡ a + 2048 + 1 = omega arith in
     rw (← e, up) (exchanged _ _ _ _ (omega arith) p)

@@ -4,7 +4,6 @@ use Rattle.rules.specs.Tile.{Tile}
 use Rattle.rules.specs.Refusal.{Outcome}
 use Rattle.rules.specs.Load.{Store, LoadTile, load_tile, block_stores, tile_stores, hardware_stores, row_stores, by_hardware, Reason}
 use Rattle.rules.specs.Calls.{block_outside, tile_load_outside, tlut_outside, hardware_outside, load_tests, loaded}
-use Rattle.rdp.specs.declared.answer.LoadAnswer.{LoadAnswer}
 use Rattle.tmem.specs.declared.asked.Asked.{Asked}
 use Rattle.tmem.specs.declared.asked.Asked.TheVariants.{Block, Tile as TileLoad, TlutHardware, TlutRows}
 
@@ -25,10 +24,6 @@ asked_stores t image (TlutRows count rows stride) = row_stores t count rows stri
 -- which of the two loads of a table document 01's rule picks
 abbrev pub picked : ℕ → ℕ → ℕ → ℕ → Asked
 picked image count rows stride = cond (by_hardware image rows) (TlutHardware count rows stride) (TlutRows count rows stride)
-
--- the answer of one that is refused
-abbrev pub refused_load : ℕ → ℕ → LoadAnswer
-refused_load refusal last = record { refusal = refusal; count = 0; made_up = 0; number = last }
 
 -- the call
 abbrev pub asked_call : List ℕ → List ℕ → List ℕ → List ℕ → Tile → ℕ → Asked → Reason → ℕ → Outcome

@@ -1,10 +1,11 @@
 -- Names for what the parts of a load take, do and count, and the declared record of a load's fields as the rules have it. They
 -- give nothing a meaning.
-use Rattle.std.specs.Prelude.{◌≡◌, Bool, cond, ◌||◌, List, [], ◌∷◌, ◌++◌, ℕ, ◌+◌, ◌-◌, ◌*◌, ◌/◌, ◌%◌, ◌^◌, ◌<◌, ◌≤◌, eqb, length, get_or}
+use Rattle.std.specs.Prelude.{◌≡◌, Bool, cond, ◌||◌, List, [], ◌∷◌, ◌++◌, ℕ, ◌+◌, ◌-◌, ◌%◌, ◌<◌, ◌≤◌, eqb, length, get_or}
+use Rattle.std.specs.Int.{w64, to_le_bytes}
+use denote.Ref.{at_last}
 use Rattle.rules.specs.Base.{tab}
-use Rattle.rules.specs.Calls.{AllLent}
 use Rattle.rules.specs.Load.{Store, store, LoadTile, stored, written, reasoned, made_up, word_made_up}
-use Rattle.tmem.specs.declared.label.Label.{Label}
+use Rattle.tmem.specs.declared.memory.Memory.{Memory}
 use Rattle.tmem.specs.declared.place.LoadTile.{LoadTile as Declared}
 use Rattle.tmem.specs.declared.source.SourceWord.{SourceWord}
 use Rattle.tmem.specs.declared.tally.Tally.{Tally}
@@ -12,24 +13,6 @@ use Rattle.tmem.specs.declared.tally.Tally.{Tally}
 -- the same fields, with the units' numbers
 abbrev pub load_of : Declared → LoadTile
 load_of t = record { fmt = t.fmt; siz = t.siz; line = t.line.0; tmem_addr = t.tmem_addr.0 }
-
--- the buffers that a load writes
-pub record Memory : Type 0 where
-  pub bank : List ℕ
-  pub map : List ℕ
-  pub reasons : List ℕ
-
-abbrev pub memory : List ℕ → List ℕ → List ℕ → Memory
-memory bank map reasons = record { bank = bank; map = map; reasons = reasons }
-
--- the number and the reason that a load leaves
-abbrev pub label_of : ℕ → ℕ → Label
-label_of number reason = record { number = number; reason = reason }
-
--- the buffers have their lengths, and a load's number has two bytes
-pub record Lent (m : Memory) (label : Label) : Type 0 where
-  pub whole : AllLent m.bank m.map m.reasons
-  pub number_in : label.number < 65536
 
 -- the source place of a word's byte k; "Each source offset is taken mod 2" where one pair fills all lanes
 abbrev pub place_of : ℕ → Bool → ℕ → ℕ
@@ -39,12 +22,9 @@ place_of source replicate k = source + cond replicate (k % 2) k
 abbrev pub half_stores : ℕ → ℕ → ℕ → List Store
 half_stores a p q = store a p ∷ store (a + 1) q ∷ []
 
--- byte k of a word's number, in which the first byte has the least weight, and its eight bytes
-abbrev pub byte_in : ℕ → ℕ → ℕ
-byte_in word k = word / 2 ^ (8 * k) % 256
-
+-- a word's eight bytes, of its number
 abbrev pub bytes_in : ℕ → List ℕ
-bytes_in word = tab 8 (byte_in word)
+bytes_in word = to_le_bytes w64 word
 
 -- the eight bytes that a word load takes from a source, where `from k` is the place of byte k
 abbrev pub source_bytes : List ℕ → (ℕ → ℕ) → List ℕ
@@ -73,11 +53,13 @@ pub record Spots (first odd : ℕ) : Type 0 where
   pub odd_in : odd ≤ 2
   pub odd_even : odd % 2 ≡ 0
 
--- the stores of a list are carried out on the buffers, for a load with that label
-pub record CarriedOut (src : List ℕ) (l : List Store) (label : Label) (m m' : Memory) : Type 0 where
-  pub bank_is : m'.bank ≡ stored src l m.bank
-  pub map_is : m'.map ≡ written label.number l m.map
-  pub reasons_is : m'.reasons ≡ reasoned label.reason l m.reasons
+-- the stores of a list are carried out on the buffers: `at_last x l` is the reference x, its pointer and its ghost name with it, at the
+-- list l
+pub record Carried (src : List ℕ) (l : List Store) (m m' : Memory) : Type 0 where
+  pub bank_is : m'.bank ≡ at_last m.bank (stored src l m.bank.now)
+  pub map_is : m'.written ≡ at_last m.written (written m.label.number l m.written.now)
+  pub reasons_is : m'.reasons ≡ at_last m.reasons (reasoned m.label.reason l m.reasons.now)
+  pub label_is : m'.label ≡ m.label
 
 -- what is counted of a list of stores from a source of `size` bytes
 abbrev pub tally_of : ℕ → List Store → Tally
@@ -92,6 +74,6 @@ abbrev pub plus_tally : Tally → Tally → Tally
 plus_tally a b = record { count = a.count + b.count; made_up = a.made_up + b.made_up }
 
 -- the stores of a list are carried out, and their tally is answered
-pub record Counted (src : List ℕ) (l : List Store) (label : Label) (m m' : Memory) (tally : Tally) : Type 0 where
-  pub carried : CarriedOut src l label m m'
+pub record Counted (src : List ℕ) (l : List Store) (m m' : Memory) (tally : Tally) : Type 0 where
+  pub carried : Carried src l m m'
   pub tally_is : tally ≡ tally_of (length src) l

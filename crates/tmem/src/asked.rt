@@ -1,14 +1,14 @@
 // What a load is asked for: a block, a tile or one of the two loads of a lookup table, with the numbers that are its own.
 ghost use Rattle.std.specs.Prelude.{◌≡◌, false, ◌≤◌};
 ghost use Rattle.rules.specs.Calls.{hardware_outside};
-ghost use Rattle.tmem.specs.Part.{load_of, memory, Lent, Counted};
+ghost use Rattle.tmem.specs.Part.{load_of, Counted};
 ghost use Rattle.tmem.specs.Asked.{asked_outside, asked_stores, picked};
 
-use crate::entries::write_tlut_rows;
-use crate::label::Label;
-use crate::load_block::write_block_words;
-use crate::load_tile::write_tile_rows;
-use crate::load_tlut::write_tlut_words;
+use crate::entries::RowsLoad;
+use crate::load_block::BlockLoad;
+use crate::load_tile::TileLoad;
+use crate::load_tlut::HardwareLoad;
+use crate::memory::Memory;
 use crate::place::LoadTile;
 use crate::tally::Tally;
 
@@ -92,44 +92,53 @@ impl Asked {
     // It is carried out; its tally of stores is answered.
     pub(crate) fn write(
         self,
-        bank: &mut [u8],
-        written: &mut [u8],
-        reasons: &mut [u8],
+        memory: &mut Memory,
         src: &[u8],
         tile: LoadTile,
         image_siz: u32,
-        label: Label,
     ) -> Tally
-        requires lent { Lent (memory bank.old written.old reasons.old) label }
         requires image_siz_bound { image_siz ≤ 3 }
         requires self_value { asked_outside image_siz self ≡ false }
-        ensures { Counted src.now (asked_stores (load_of tile) image_siz self) label
-            (memory bank.old written.old reasons.old)
-            (memory bank.new written.new reasons.new) result }
+        ensures { Counted src.now (asked_stores (load_of tile) image_siz self) memory.old memory.new result }
     {
         match self {
             Asked::Block { dxt, words } => {
-                write_block_words(
-                    bank, written, reasons, src, tile, image_siz, dxt, words, label,
-                )
+                let load = BlockLoad {
+                    image_siz,
+                    dxt,
+                    words,
+                };
+                load.write(memory, src, tile)
             }
             Asked::Tile {
                 rows,
                 words,
                 stride,
-            } => write_tile_rows(
-                bank, written, reasons, src, tile, image_siz, rows, words, stride, label,
-            ),
+            } => {
+                let load = TileLoad {
+                    image_siz,
+                    rows,
+                    words,
+                    stride,
+                };
+                load.write(memory, src, tile)
+            }
             Asked::TlutHardware { count, .. } => {
-                write_tlut_words(bank, written, reasons, src, tile, image_siz, count, label)
+                let load = HardwareLoad { image_siz, count };
+                load.write(memory, src, tile)
             }
             Asked::TlutRows {
                 count,
                 rows,
                 stride,
-            } => write_tlut_rows(
-                bank, written, reasons, src, tile, count, rows, stride, label,
-            ),
+            } => {
+                let load = RowsLoad {
+                    count,
+                    rows,
+                    stride,
+                };
+                load.write(memory, src, tile)
+            }
         }
     }
 }

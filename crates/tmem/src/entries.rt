@@ -1,15 +1,15 @@
 // Rows of a lookup table's entries, each pair of bytes four times over.
-ghost use Rattle.std.specs.Prelude.{◌≡◌, ◌+◌, ◌*◌, ◌%◌, ◌<◌, ◌≤◌};
+ghost use Rattle.std.specs.Prelude.{◌≡◌, false, ◌+◌, ◌*◌, ◌%◌, ◌<◌, ◌≤◌};
 ghost use Rattle.rules.specs.Base.{tab};
+ghost use Rattle.rules.specs.Calls.{tlut_outside};
 ghost use Rattle.rules.specs.Tile.{bank_size};
 ghost use Rattle.rules.specs.Load.{store, entry_row, row_stores};
-ghost use Rattle.tmem.specs.Part.{load_of, memory, Lent, Counted};
+ghost use Rattle.tmem.specs.Part.{load_of, Counted};
 
 use crate::bank::Bank;
-use crate::label::Label;
+use crate::memory::Memory;
 use crate::place::LoadTile;
 use crate::source::source_word;
-use crate::store::store_pair;
 use crate::tally::Tally;
 use rdp::units::{ByteAddr, WordAddr};
 
@@ -23,43 +23,20 @@ fn entry_addr(tile: LoadTile, row: usize, i: usize) -> ByteAddr
     ensures result_value { result.0 ≡ (8 * tile.tmem_addr.0 + 32 * row * tile.line.0 + 8 * i) % bank_size }
     ensures result_bound { (result.0 + 8 ≤ bank_size) × (result.0 % 2 ≡ 0) }
 {
-    let word = tile.tmem_addr;
-    let line = tile.line;
-    let first = word.row(line, LINES_A_ROW * row as u32);
+    let first = tile.tmem_addr.row(tile.line, LINES_A_ROW * row as u32);
     let entry = WordAddr(first.0 + i as u32);
     ByteAddr(entry.bytes().0 & Bank::MASK8)
 }
 
 // An entry's pair of bytes, four times over; it answers its tally of stores.
-fn write_tlut_entry(
-    bank: &mut [u8],
-    written: &mut [u8],
-    reasons: &mut [u8],
-    src: &[u8],
-    at: ByteAddr,
-    source: usize,
-    label: Label,
-) -> Tally
-    requires lent { Lent (memory bank.old written.old reasons.old) label }
-    requires at_bound { (at.0 + 8 ≤ bank_size) × (at.0 % 2 ≡ 0) }
-    requires source_bound { source < 1024 * 65536 }
-    ensures { Counted src.now (tab 8 (λ k. store (at.0 + k) (source + k % 2))) label
-        (memory bank.old written.old reasons.old)
-        (memory bank.new written.new reasons.new) result }
+fn write_tlut_entry(memory: &mut Memory, src: &[u8], at: ByteAddr, source: usize) -> Tally
+    requires { (at.0 + 8 ≤ bank_size) × (at.0 % 2 ≡ 0) }
+    ensures { Counted src.now (tab 8 (λ k. store (at.0 + k) (source + k % 2))) memory.old memory.new result }
 {
     let word = source_word(src, source, true);
     for k in 0..4 {
         let to = ByteAddr(at.0 + 2 * k);
-        store_pair(
-            bank,
-            written,
-            reasons,
-            word.bytes,
-            to,
-            2 * k,
-            2 * k + 1,
-            label,
-        );
+        memory.store_pair(word.bytes, to, 2 * k, 2 * k + 1);
     }
     Tally {
         count: 8,
@@ -67,60 +44,47 @@ fn write_tlut_entry(
     }
 }
 
-// The entries of a row; it answers its tally of stores.
-fn write_tlut_row(
-    bank: &mut [u8],
-    written: &mut [u8],
-    reasons: &mut [u8],
-    src: &[u8],
-    tile: LoadTile,
-    count: usize,
-    stride: usize,
-    row: usize,
-    label: Label,
-) -> Tally
-    requires lent { Lent (memory bank.old written.old reasons.old) label }
-    requires count_bound { count ≤ 1024 }
-    requires stride_bound { stride ≤ 65535 }
-    requires row_bound { row < 1024 }
-    ensures { Counted src.now (entry_row (load_of tile) count stride row) label
-        (memory bank.old written.old reasons.old)
-        (memory bank.new written.new reasons.new) result }
-{
-    let mut tally = Tally::none();
-    for i in 0..count {
-        let at = entry_addr(tile, row, i);
-        let source = row * stride + 2 * i;
-        let more = write_tlut_entry(bank, written, reasons, src, at, source, label);
-        tally = tally.plus(more);
-    }
-    tally
+// The numbers of a load by rows, which are in their ranges.
+#[derive(Clone, Copy)]
+pub(crate) struct RowsLoad {
+    pub(crate) count: usize,
+    pub(crate) rows: usize,
+    pub(crate) stride: usize,
+    ghost in_range: { tlut_outside count rows stride ≡ false },
 }
 
-// The rows of entries; it answers its tally of stores.
-pub(crate) fn write_tlut_rows(
-    bank: &mut [u8],
-    written: &mut [u8],
-    reasons: &mut [u8],
-    src: &[u8],
-    tile: LoadTile,
-    count: usize,
-    rows: usize,
-    stride: usize,
-    label: Label,
-) -> Tally
-    requires lent { Lent (memory bank.old written.old reasons.old) label }
-    requires count_bound { count ≤ 1024 }
-    requires rows_bound { rows ≤ 1024 }
-    requires stride_bound { stride ≤ 65535 }
-    ensures { Counted src.now (row_stores (load_of tile) count rows stride) label
-        (memory bank.old written.old reasons.old)
-        (memory bank.new written.new reasons.new) result }
-{
-    let mut tally = Tally::none();
-    for row in 0..rows {
-        let more = write_tlut_row(bank, written, reasons, src, tile, count, stride, row, label);
-        tally = tally.plus(more);
+impl RowsLoad {
+    // The entries of a row; it answers its tally of stores.
+    fn write_row(self, memory: &mut Memory, src: &[u8], tile: LoadTile, row: usize) -> Tally
+        requires { row < self.rows }
+        ensures { Counted src.now (entry_row (load_of tile) self.count self.stride row) memory.old memory.new result }
+    {
+        // A memory of its own: the compiler keeps its places at hand, and does not read them again after each store.
+        let mut own = Memory {
+            bank: &mut *memory.bank,
+            written: &mut *memory.written,
+            reasons: &mut *memory.reasons,
+            label: memory.label,
+        };
+        let mut tally = Tally::none();
+        for i in 0..self.count {
+            let at = entry_addr(tile, row, i);
+            let source = row * self.stride + 2 * i;
+            let more = write_tlut_entry(&mut own, src, at, source);
+            tally = tally.plus(more);
+        }
+        tally
     }
-    tally
+
+    // The rows of entries; it answers its tally of stores.
+    pub(crate) fn write(self, memory: &mut Memory, src: &[u8], tile: LoadTile) -> Tally
+        ensures { Counted src.now (row_stores (load_of tile) self.count self.rows self.stride) memory.old memory.new result }
+    {
+        let mut tally = Tally::none();
+        for row in 0..self.rows {
+            let more = self.write_row(memory, src, tile, row);
+            tally = tally.plus(more);
+        }
+        tally
+    }
 }

@@ -1,20 +1,19 @@
 // The loads: a block, a tile or a lookup table into the bank. Each refuses, or stores and leaves its number and its reason.
 ghost use Rattle.std.specs.Prelude.{◌≡◌, [], ◌∷◌};
-ghost use Rattle.rules.specs.Refusal.{first};
-ghost use Rattle.rules.specs.Calls.{lent_tests, number_spent, number_tests, load_tests};
+ghost use Rattle.rules.specs.Refusal.{◌if◌, first};
+ghost use Rattle.rules.specs.Calls.{lent_tests, number_spent, bad_reason, number_tests};
 ghost use Rattle.rules.specs.Calls.{block_call, tile_call, tlut_hardware_call, tlut_rows_call};
+ghost use Rattle.rdp.specs.Refused.{refusal_of};
 ghost use Rattle.rdp.specs.View.{tile_of, load_answered};
-ghost use Rattle.tmem.specs.Asked.{asked_outside, asked_call, refused_load};
+ghost use Rattle.tmem.specs.Asked.{asked_outside, asked_call};
 ghost use Rattle.tmem.specs.Reasons.{reason_of};
 
 use crate::asked::Asked;
 use crate::bank::Bank;
-use crate::label::Label;
-use crate::place::load_fields;
+use crate::memory::{Label, Memory};
 use crate::reason::Reason;
-use rdp::answer::LoadAnswer;
-use rdp::refusal;
-use rdp::refusal::refuse;
+use rdp::answer::Loaded;
+use rdp::refusal::{Refusal, refuse};
 use rdp::tile::TileDescriptor;
 
 // The bytes that a source has at most.
@@ -23,18 +22,18 @@ const SOURCE_LIMIT: usize = 65536;
 // The last number that leaves another for a load.
 const LAST_LIMIT: u32 = 65534;
 
-// The first refusal of a load's numbers, for a source of `size` bytes: 2, then 4. 0 is none.
-pub fn number_refusal(size: usize, tile: TileDescriptor, image_siz: u32, asked: Asked) -> u32
-    ensures { result ≡ first (number_tests size (tile_of tile) image_siz (asked_outside image_siz asked) []) }
+// The first refusal of a load's numbers, for a source of `size` bytes: 2, then 4.
+pub fn check_numbers(
+    size: usize,
+    tile: TileDescriptor,
+    image_siz: u32,
+    asked: Asked,
+) -> Result<(), Refusal>
+    ensures { refusal_of result ≡ first (number_tests size (tile_of tile) image_siz (asked_outside image_siz asked) []) }
 {
-    if tile.load_fields_outside() {
-        return refusal::TILE;
-    }
-    if (SOURCE_LIMIT < size) | (3 < image_siz) {
-        return refusal::LOAD;
-    }
-    let outside = asked.outside(image_siz);
-    if outside { refusal::LOAD } else { 0 }
+    refuse(Refusal::Tile, tile.load_fields_outside())?;
+    refuse(Refusal::Load, (SOURCE_LIMIT < size) | (3 < image_siz))?;
+    refuse(Refusal::Load, asked.outside(image_siz))
 }
 
 // No number is left after the last one given.
@@ -44,61 +43,30 @@ pub fn is_spent(last: u32) -> bool
     LAST_LIMIT < last
 }
 
-// The refusal of the lengths of bank, written map and reasons. 0 is none.
-pub fn lent_refusal(bank: &[u8], written: &[u8], reasons: &[u8]) -> u32
-    ensures { result ≡ first (lent_tests bank.now written.now reasons.now []) }
+// The refusal of the lengths of bank, written map and reasons.
+pub fn check_lent(bank: &[u8], written: &[u8], reasons: &[u8]) -> Result<(), Refusal>
+    ensures { refusal_of result ≡ first (lent_tests bank.now written.now reasons.now []) }
 {
-    if bank.len() != Bank::SIZE {
-        return refusal::LENGTH;
-    }
-    if written.len() != Bank::WRITTEN_SIZE {
-        return refusal::LENGTH;
-    }
-    if reasons.len() != Bank::REASONS_SIZE {
-        refusal::LENGTH
-    } else {
-        0
-    }
+    refuse(Refusal::Length, bank.len() != Bank::SIZE)?;
+    refuse(Refusal::Length, written.len() != Bank::WRITTEN_SIZE)?;
+    refuse(Refusal::Length, reasons.len() != Bank::REASONS_SIZE)
 }
 
-// The first refusal of a load: 1, 2, 4, 19, 18.
-fn load_refusal(
-    bank: &[u8],
-    written: &[u8],
-    reasons: &[u8],
-    src: &[u8],
+// The refusals of a load beside those of the buffers' lengths: 2, 4, 19, 18.
+fn check_load(
+    size: usize,
     tile: TileDescriptor,
     image_siz: u32,
     asked: Asked,
     reason: Reason,
     last: u32,
-) -> u32
-    ensures { result ≡ first (load_tests bank.now written.now reasons.now src.now
-        (tile_of tile) image_siz (asked_outside image_siz asked) (reason_of reason) last) }
+) -> Result<(), Refusal>
+    ensures { refusal_of result ≡ first (number_tests size (tile_of tile) image_siz (asked_outside image_siz asked)
+        (bad_reason (reason_of reason) ∷ (18 if number_spent last) ∷ [])) }
 {
-    let lent = lent_refusal(bank, written, reasons);
-    if lent != 0 {
-        return lent;
-    }
-    let no = number_refusal(src.len(), tile, image_siz, asked);
-    if no != 0 {
-        return no;
-    }
-    let spent = is_spent(last);
-    let outside = reason.outside();
-    refuse(refusal::REASON, outside, refuse(refusal::SPENT, spent, 0))
-}
-
-// The answer of a load that is refused: nothing is counted, and the number passed is handed back.
-fn refused_load(refusal: u32, last: u32) -> LoadAnswer
-    ensures { result ≡ refused_load refusal last }
-{
-    LoadAnswer {
-        refusal,
-        count: 0,
-        made_up: 0,
-        number: last,
-    }
+    check_numbers(size, tile, image_siz, asked)?;
+    refuse(Refusal::Reason, reason.outside())?;
+    refuse(Refusal::Spent, is_spent(last))
 }
 
 // Every load, ordinary or rejected, after the one whose number is `last`: it refuses, or carries out what is asked, and answers.
@@ -112,37 +80,38 @@ pub fn load(
     asked: Asked,
     reason: Reason,
     last: u32,
-) -> LoadAnswer
-    ensures { load_answered result (bank.new ∷ written.new ∷ reasons.new ∷ [])
+) -> Result<Loaded, Refusal>
+    ensures { load_answered last result (bank.new ∷ written.new ∷ reasons.new ∷ [])
         ≡ asked_call bank.old written.old reasons.old src.now (tile_of tile) image_siz asked
         (reason_of reason) last }
 {
-    let no = load_refusal(
-        bank, written, reasons, src, tile, image_siz, asked, reason, last,
-    );
-    if no != 0 {
-        return refused_load(no, last);
-    }
+    let Some(bank) = bank.as_mut_array() else {
+        return Err(Refusal::Length);
+    };
+    let Some(written) = written.as_mut_array() else {
+        return Err(Refusal::Length);
+    };
+    let Some(reasons) = reasons.as_mut_array() else {
+        return Err(Refusal::Length);
+    };
+    check_load(src.len(), tile, image_siz, asked, reason, last)?;
     let number = last + 1;
     let label = Label {
-        number: number as usize,
+        number: number as u16,
         reason: reason.left(),
     };
-    let done = asked.write(
+    let mut memory = Memory {
         bank,
         written,
         reasons,
-        src,
-        load_fields(tile),
-        image_siz,
         label,
-    );
-    LoadAnswer {
-        refusal: 0,
+    };
+    let done = asked.write(&mut memory, src, tile.into(), image_siz);
+    Ok(Loaded {
         count: done.count,
         made_up: done.made_up,
         number,
-    }
+    })
 }
 
 // A block of words, whose row advances by dxt 2,048ths a word.
@@ -157,8 +126,8 @@ pub fn write_block_for_tile(
     word_count: u32,
     reason: Reason,
     last: u32,
-) -> LoadAnswer
-    ensures { load_answered result (bank.new ∷ written.new ∷ reasons.new ∷ [])
+) -> Result<Loaded, Refusal>
+    ensures { load_answered last result (bank.new ∷ written.new ∷ reasons.new ∷ [])
         ≡ block_call bank.old written.old reasons.old src.now
         (tile_of tile) image_siz dxt word_count (reason_of reason) last }
 {
@@ -184,8 +153,8 @@ pub fn write_tile_for_tile(
     stride: u32,
     reason: Reason,
     last: u32,
-) -> LoadAnswer
-    ensures { load_answered result (bank.new ∷ written.new ∷ reasons.new ∷ [])
+) -> Result<Loaded, Refusal>
+    ensures { load_answered last result (bank.new ∷ written.new ∷ reasons.new ∷ [])
         ≡ tile_call bank.old written.old reasons.old src.now (tile_of tile) image_siz
         row_count words_per_row stride (reason_of reason) last }
 {
@@ -212,8 +181,8 @@ pub fn write_tlut_hardware_for_tile(
     stride: u32,
     reason: Reason,
     last: u32,
-) -> LoadAnswer
-    ensures { load_answered result (bank.new ∷ written.new ∷ reasons.new ∷ [])
+) -> Result<Loaded, Refusal>
+    ensures { load_answered last result (bank.new ∷ written.new ∷ reasons.new ∷ [])
         ≡ tlut_hardware_call bank.old written.old reasons.old src.now
         (tile_of tile) image_siz count rows stride (reason_of reason) last }
 {
@@ -248,8 +217,8 @@ pub fn write_tlut_rows_for_tile(
     stride: u32,
     reason: Reason,
     last: u32,
-) -> LoadAnswer
-    ensures { load_answered result (bank.new ∷ written.new ∷ reasons.new ∷ [])
+) -> Result<Loaded, Refusal>
+    ensures { load_answered last result (bank.new ∷ written.new ∷ reasons.new ∷ [])
         ≡ tlut_rows_call bank.old written.old reasons.old src.now
         (tile_of tile) image_siz row_entries rows stride (reason_of reason) last }
 {

@@ -1,34 +1,31 @@
 // A block load: words one after the other, whose row advances by dxt.
-ghost use Rattle.std.specs.Prelude.{◌≤◌};
+ghost use Rattle.std.specs.Prelude.{◌≡◌, false, ◌≤◌};
+ghost use Rattle.rules.specs.Calls.{block_outside};
 ghost use Rattle.rules.specs.Load.{block_stores};
-ghost use Rattle.tmem.specs.Part.{load_of, memory, Lent, Counted};
+ghost use Rattle.tmem.specs.Part.{load_of, Counted};
 
-use crate::label::Label;
-use crate::place::{LoadTile, image_tile};
+use crate::memory::Memory;
+use crate::place::LoadTile;
 use crate::tally::Tally;
 use crate::words::{Run, write_words};
 
-// The words of a block; it answers its tally of stores.
-pub(crate) fn write_block_words(
-    bank: &mut [u8],
-    written: &mut [u8],
-    reasons: &mut [u8],
-    src: &[u8],
-    tile: LoadTile,
-    image_siz: u32,
-    dxt: usize,
-    words: usize,
-    label: Label,
-) -> Tally
-    requires lent { Lent (memory bank.old written.old reasons.old) label }
-    requires image_siz_bound { image_siz ≤ 3 }
-    requires dxt_bound { dxt ≤ 4095 }
-    requires words_bound { words ≤ 2048 }
-    ensures { Counted src.now (block_stores (load_of tile) image_siz dxt words) label
-        (memory bank.old written.old reasons.old)
-        (memory bank.new written.new reasons.new) result }
-{
-    let image = image_tile(tile, image_siz);
-    let run = Run::of_image(image_siz, 0, dxt, 0);
-    write_words(bank, written, reasons, src, image, run, words, label)
+// A block's numbers, which are in their ranges.
+#[derive(Clone, Copy)]
+pub(crate) struct BlockLoad {
+    pub(crate) image_siz: u32,
+    pub(crate) dxt: usize,
+    pub(crate) words: usize,
+    ghost image_in: { image_siz ≤ 3 },
+    ghost in_range: { block_outside dxt words ≡ false },
+}
+
+impl BlockLoad {
+    // The words; it answers its tally of stores.
+    pub(crate) fn write(self, memory: &mut Memory, src: &[u8], tile: LoadTile) -> Tally
+        ensures { Counted src.now (block_stores (load_of tile) self.image_siz self.dxt self.words) memory.old memory.new result }
+    {
+        let image = tile.of_image(self.image_siz);
+        let run = Run::of_image(self.image_siz, 0, self.dxt, 0);
+        write_words(memory, src, image, run, self.words)
+    }
 }

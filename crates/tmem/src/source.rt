@@ -1,110 +1,65 @@
 // What a word load takes from its source: eight bytes, and how many of them are made up, since they stand past the source's end.
-ghost use Rattle.std.specs.Prelude.{◌≡◌, true, false, ◌+◌, ◌-◌, ◌<◌, ◌≤◌, ◌^◌, length, get_or};
-ghost use Rattle.tmem.specs.Part.{place_of, bytes_in, source_bytes, Taken};
+ghost use Rattle.std.specs.Prelude.{◌≡◌, true, false, [], ◌∷◌, ◌<◌, length};
+ghost use Rattle.std.specs.Int.{w64, from_le_bytes};
+ghost use Rattle.tmem.specs.Part.{place_of, Taken};
 
-use crate::packed::{pack, pack_pair};
-
-// A word of the source.
+// A word of the source: its eight bytes as one number, the first the lowest, since the compiler keeps one number at hand more easily.
 #[derive(Clone, Copy)]
 pub(crate) struct SourceWord {
     pub(crate) bytes: u64,
     pub(crate) made_up: u32,
 }
 
-// A byte of the source, and zero past its end.
-fn source_byte(src: &[u8], offset: usize) -> u8
-    ensures { result ≡ get_or src.now offset 0 }
+// Eight bytes, of which the source's rest has only some.
+fn cut_word(rest: &[u8]) -> SourceWord
+    requires { length rest.now < 8 }
+    ensures { Taken rest.now (place_of 0 false) result }
 {
-    if offset < src.len() { src[offset] } else { 0 }
+    let mut bytes = [0; 8];
+    bytes[..rest.len()].copy_from_slice(rest);
+    SourceWord {
+        bytes: u64::from_le_bytes(bytes),
+        made_up: 8 - rest.len() as u32,
+    }
 }
 
-// Eight bytes that all stand inside the source.
-fn inside_word(src: &[u8], at: usize) -> u64
-    requires { at + 8 ≤ length src.now }
-    ensures { bytes_in result ≡ source_bytes src.now (place_of at false) }
+// Two bytes four times over.
+fn pair(first: u8, second: u8, made_up: u32) -> SourceWord
+    ensures bytes { result.bytes
+        ≡ from_le_bytes w64 (first ∷ second ∷ first ∷ second ∷ first ∷ second ∷ first ∷ second ∷ []) }
+    ensures made_up { result.made_up ≡ made_up }
 {
-    pack(
-        src[at],
-        src[at + 1],
-        src[at + 2],
-        src[at + 3],
-        src[at + 4],
-        src[at + 5],
-        src[at + 6],
-        src[at + 7],
-    )
-}
-
-// Eight bytes, some or all of which stand past the source's end.
-fn cut_word(src: &[u8], at: usize) -> u64
-    requires { at < 2 ^ 32 }
-    ensures { bytes_in result ≡ source_bytes src.now (place_of at false) }
-{
-    pack(
-        source_byte(src, at),
-        source_byte(src, at + 1),
-        source_byte(src, at + 2),
-        source_byte(src, at + 3),
-        source_byte(src, at + 4),
-        source_byte(src, at + 5),
-        source_byte(src, at + 6),
-        source_byte(src, at + 7),
-    )
-}
-
-// How many of them stand past it.
-fn cut_bytes(size: usize, at: usize) -> u32
-    requires at_bound { at < 2 ^ 32 }
-    requires size_bound { size < at + 8 }
-    ensures { result ≡ 8 - (size - at) }
-{
-    if size <= at {
-        8
-    } else {
-        (at + 8 - size) as u32
+    SourceWord {
+        bytes: u16::from_le_bytes([first, second]) as u64 * 0x0001_0001_0001_0001,
+        made_up,
     }
 }
 
 // A pair that fills all lanes. Each of its bytes counts as often as it is stored, four times.
-fn pair_word(src: &[u8], at: usize) -> SourceWord
-    requires { at < 2 ^ 32 }
-    ensures { Taken src.now (place_of at true) result }
+fn pair_word(rest: &[u8]) -> SourceWord
+    ensures { Taken rest.now (place_of 0 true) result }
 {
-    if at + 2 <= src.len() {
-        return SourceWord {
-            bytes: pack_pair(src[at], src[at + 1]),
-            made_up: 0,
-        };
-    }
-    if src.len() <= at {
-        return SourceWord {
-            bytes: pack_pair(0, 0),
-            made_up: 8,
-        };
-    }
-    SourceWord {
-        bytes: pack_pair(src[at], 0),
-        made_up: 4,
+    match rest {
+        [first, second, ..] => pair(*first, *second, 0),
+        [first] => pair(*first, 0, 4),
+        [] => pair(0, 0, 8),
     }
 }
 
 // The word at `at`; where one pair fills all lanes, its bytes are that pair's. One test says whether all of them stand inside the
-// source; only those of a word that is cut are tested one by one.
+// source; only those of a word that is cut are counted.
 pub(crate) fn source_word(src: &[u8], at: usize, replicate: bool) -> SourceWord
-    requires { at < 2 ^ 32 }
     ensures { Taken src.now (place_of at replicate) result }
 {
+    let rest = &src[at.min(src.len())..];
     if replicate {
-        return pair_word(src, at);
+        return pair_word(rest);
     }
-    if at + 8 <= src.len() {
-        return SourceWord {
-            bytes: inside_word(src, at),
+    match rest.first_chunk() {
+        Some(bytes) => SourceWord {
+            bytes: u64::from_le_bytes(*bytes),
             made_up: 0,
-        };
-    }
-    SourceWord {
-        bytes: cut_word(src, at),
-        made_up: cut_bytes(src.len(), at),
+        },
+        None => cut_word(rest),
     }
 }

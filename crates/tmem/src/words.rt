@@ -1,9 +1,9 @@
 // A run of word loads, which block, tile and TLUT loads share.
-ghost use Rattle.std.specs.Prelude.{◌≡◌, ◌<◌, ◌≤◌, ◌^◌};
-ghost use Rattle.tmem.specs.Part.{load_of, memory, Lent, Counted};
+ghost use Rattle.std.specs.Prelude.{◌≡◌, ◌<◌, ◌≤◌};
+ghost use Rattle.tmem.specs.Part.{load_of, Counted};
 ghost use Rattle.tmem.specs.Run.{Paced, image_run, word_at, run_stores};
 
-use crate::label::Label;
+use crate::memory::Memory;
 use crate::place::LoadTile;
 use crate::tally::Tally;
 use crate::word::write_load_word;
@@ -59,7 +59,7 @@ impl Run {
         requires paced { Paced self }
         requires w_bound { w < 2048 }
         ensures value { result ≡ word_at self w }
-        ensures t_bound { (result.t < 4096) × (result.source < 2 ^ 32) }
+        ensures t_bound { result.t < 4096 }
     {
         let s = w * self.columns;
         let t = self.row + w * self.dxt / DXT_SWAP;
@@ -70,37 +70,27 @@ impl Run {
 
 // The words of a run, one after the other; it answers its tally of stores.
 pub(crate) fn write_words(
-    bank: &mut [u8],
-    written: &mut [u8],
-    reasons: &mut [u8],
+    memory: &mut Memory,
     src: &[u8],
     tile: LoadTile,
     run: Run,
     words: usize,
-    label: Label,
 ) -> Tally
-    requires lent { Lent (memory bank.old written.old reasons.old) label }
     requires paced { Paced run }
     requires words_bound { words ≤ 2048 }
-    ensures { Counted src.now (run_stores (load_of tile) run words) label
-        (memory bank.old written.old reasons.old)
-        (memory bank.new written.new reasons.new) result }
+    ensures { Counted src.now (run_stores (load_of tile) run words) memory.old memory.new result }
 {
+    // A memory of its own: the compiler keeps its places at hand, and does not read them again after each store.
+    let mut own = Memory {
+        bank: &mut *memory.bank,
+        written: &mut *memory.written,
+        reasons: &mut *memory.reasons,
+        label: memory.label,
+    };
     let mut tally = Tally::none();
     for word in 0..words {
         let at = run.word(word);
-        let more = write_load_word(
-            bank,
-            written,
-            reasons,
-            src,
-            tile,
-            at.s,
-            at.t,
-            at.source,
-            run.replicate,
-            label,
-        );
+        let more = write_load_word(&mut own, src, tile, at.s, at.t, at.source, run.replicate);
         tally = tally.plus(more);
     }
     tally

@@ -1,14 +1,20 @@
--- `tmem::source::cut_word` reads eight bytes that follow each other, zero past the source's end. Assumes nothing.
-use mathlib.Core.Path.{◌∙◌}
-use mathlib.Core.List.{[], ◌∷◌}
-use Rattle.tmem.proofs.EightBytes.{eight_from}
+-- `tmem::source::cut_word` fills up the source's rest with zeros. Assumes nothing.
+use mathlib.Core.Path.{ap, ◌∙◌}
+use mathlib.Core.Bool.{false}
+use mathlib.Core.List.{◌++◌}
+use native.Mathlib.Omega.{arith}
+use lib.ListN.{length, drop}
+use Rattle.tmem.specs.Part.{place_of}
+use Rattle.tmem.proofs.PastEnd.{word_past}
+use Rattle.tmem.proofs.Taken.{zeros, filled_up, kept_as_one}
 use Rattle.tmem.proofs.source.cut_word.Goals as goal
 
 pub returns : goal.returns
 returns c =
-    let s = c.args in
-    c.pack.ensures
-    ∙ (λ i.
-    c.source_byte.ensures i ∷ c.source_byte-2.ensures i ∷ c.source_byte-3.ensures i ∷ c.source_byte-4.ensures i
-    ∷ c.source_byte-5.ensures i ∷ c.source_byte-6.ensures i ∷ c.source_byte-7.ensures i ∷ c.source_byte-8.ensures i ∷ [])
-    ∙ eight_from s.src.now s.at
+    let s = c.args.rest.now in
+    record {
+      bytes_are =
+          kept_as_one s (place_of 0 false) _ _ c.type_inv.rest
+          (ap (λ l. l ++ drop (length s) zeros) c.copy_from_slice.ensures.after ∙ filled_up s c.requires) c.from_le_bytes.ensures;
+      made_up_is = omega (arith, word_past (length s) 0);
+    }

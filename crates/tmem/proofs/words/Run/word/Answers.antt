@@ -27,5 +27,5 @@ pub returns : goal.returns
 returns c =
     record {
       value = refl;
-      t_bound = (omega (arith, products (goal.at.returns c).Start), omega (arith, products (goal.at.returns c).Start));
+      t_bound = omega (arith, products (goal.at.returns c).Start);
     }

@@ -1,0 +1,13 @@
+-- `tmem::load_tile::TileLoad::write` carries out the rows of a tile, one after the other. Assumes nothing.
+use Prim.Native.Nat.{◌-◌}
+use Rattle.rules.specs.Load.{tile_row}
+use Rattle.tmem.specs.Part.{load_of}
+use Rattle.tmem.proofs.Carry.{Counting}
+use Rattle.tmem.proofs.load_tile.TileLoad.write.Given as goal
+
+abbrev pub invariant-loop-row : goal.invariant-loop-row
+invariant-loop-row l = Counting l.self.rows (tile_row (load_of l.tile) l.self.image_siz l.self.words l.self.stride) l.src l.initial.memory
+    l.row l.memory l.tally
+
+abbrev pub decreases-loop-row : goal.decreases-loop-row
+decreases-loop-row l = l.self.rows - l.row
