@@ -4,6 +4,7 @@ use mathlib.Core.List.{List, [], ◌∷◌, ◌++◌}
 use Prim.Native.Nat.{ℕ, ◌+◌, ◌<◌, ◌≤◌}
 use native.Mathlib.Omega.{arith}
 use lib.Dec.{ltb}
+use Rattle.std.specs.Prelude.{Result, Ok, Err, IsOk}
 use lib.ListN.{length, take, length-append}
 use borrow.Author.Tests.{lt-ltb, le-ltb}
 use Rattle.rules.specs.Base.{over}
@@ -11,7 +12,8 @@ use Rattle.rules.specs.Lister.{decimal, number_room, number_text, number_call}
 use Rattle.rules.specs.Refusal.{◌if◌, Outcome, first, call}
 use Rattle.rules.proofs.Refused.{refused_is, done_is}
 use Rattle.rdp.specs.View.{text_answered}
-use Rattle.rdp.specs.declared.answer.TextAnswer.{TextAnswer}
+use Rattle.rdp.specs.declared.refusal.Refusal.{Refusal}
+use Rattle.rdp.proofs.Refusals.{numbered}
 use Rattle.decimal.proofs.Decimals.{decimal_short}
 
 -- a call that wants so much room, answers where its text ends, and leaves the buffer with the text
@@ -28,11 +30,16 @@ module _ (room : ℕ) (out : List ℕ) (end : ℕ) (left : List ℕ) where
   unfolding first
   text_done h e i = rw (e, i) (done_is _ _ _ _ (rw (le-ltb (length out) room h)))
 
-  -- what a caller knows that gave room enough
-  pub text-put : {r : TextAnswer} {xs : List ℕ} → room ≤ length out → text_answered r (xs ∷ []) ≡ text_call → (r.end ≡ end) × (xs ≡ left)
-  text-put {r} {xs} h e =
-      let d = e ∙ sym (text_done h refl refl) in
-      let n : (r.end ∷ []) ≡ (end ∷ []) = ap (λ (o : Outcome). o.numbers) d in
+  -- what a caller knows that gave room enough: the call is not refused, and its end and buffer are these
+  pub text_ok : (r : Result ℕ Refusal) (xs : List ℕ) → room ≤ length out → text_answered r (xs ∷ []) ≡ text_call → IsOk r
+  text_ok (Ok n) xs h e = refl
+  text_ok (Err f) xs h e = absurd (numbered f (ap (λ (o : Outcome). o.refusal) (e ∙ sym (text_done h refl refl))))
+
+  pub text-put : {r : Result ℕ Refusal} {n : ℕ} {xs : List ℕ} → room ≤ length out → text_answered r (xs ∷ []) ≡ text_call → r ≡ Ok n
+      → (n ≡ end) × (xs ≡ left)
+  text-put {r} {n} {xs} h e k =
+      let d = sym (ap (λ (x : Result ℕ Refusal). text_answered x (xs ∷ [])) k) ∙ e ∙ sym (text_done h refl refl) in
+      let m : (n ∷ []) ≡ (end ∷ []) = ap (λ (o : Outcome). o.numbers) d in
       let b : (xs ∷ []) ≡ (left ∷ []) = ap (λ (o : Outcome). o.buffers) d in
       (cc, cc)
 
@@ -42,10 +49,16 @@ pub record Put (n after : ℕ) (out : List ℕ) (at : ℕ) (left : List ℕ) (en
   pub near : end ≤ at + number_room
   pub is : left ≡ over (take at out ++ number_text n after) out
 
--- what `put_number` leaves where there was room
-pub number_put : (n after : ℕ) (out : List ℕ) (at : ℕ) {r : TextAnswer} {left : List ℕ} → at + number_room ≤ length out
-    → text_answered r (left ∷ []) ≡ number_call n after out at → Put n after out at left r.end
+-- Where there is room, `put_number` is not refused: a caller unwraps its end.
+pub number_ok : (n after : ℕ) (out : List ℕ) (at : ℕ) (r : Result ℕ Refusal) (left : List ℕ) → at + number_room ≤ length out
+    → text_answered r (left ∷ []) ≡ number_call n after out at → IsOk r
 unfolding number_call
-number_put n after out at h e =
-    let p = text-put (at + number_room) out _ _ h e in
+number_ok n after out at r left h e = text_ok (at + number_room) out _ _ r left h e
+
+-- the end that it answers there, and the buffer that it leaves
+pub number_put : (n after : ℕ) (out : List ℕ) (at : ℕ) {r : Result ℕ Refusal} {left : List ℕ} {end : ℕ} → at + number_room ≤ length out
+    → text_answered r (left ∷ []) ≡ number_call n after out at → r ≡ Ok end → Put n after out at left end
+unfolding number_call
+number_put n after out at h e k =
+    let p = text-put (at + number_room) out _ _ h e k in
     record { ends = p.0; near = omega (arith, p.0, length-append (decimal n) (after ∷ []), decimal_short n); is = p.1 }

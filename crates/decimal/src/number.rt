@@ -4,8 +4,7 @@ ghost use Rattle.rules.specs.Base.{over};
 ghost use Rattle.rules.specs.Lister.{decimal, number_room, number_text, number_call};
 ghost use Rattle.rdp.specs.View.{text_answered};
 
-use rdp::answer::TextAnswer;
-use rdp::refusal;
+use rdp::refusal::Refusal;
 
 // The bytes of the longest number with one byte after it.
 pub const NUMBER_ROOM: usize = 11;
@@ -40,22 +39,15 @@ fn write_number(n: u32, after: u8, out: &mut [u8], at: usize) -> usize
 fn is_short(out: &[u8], at: usize) -> bool
     ensures { result ≡ ltb (length out.now) (at + number_room) }
 {
-    if out.len() < at {
-        return true;
-    }
-    out.len() - at < NUMBER_ROOM
+    out.len().saturating_sub(at) < NUMBER_ROOM
 }
 
 // A number's digits and the byte that follows them, from `at` on, and their end; or the refusal 6, and `out` as it was lent.
-pub fn put_number(n: u32, after: u8, out: &mut [u8], at: usize) -> TextAnswer
+pub fn put_number(n: u32, after: u8, out: &mut [u8], at: usize) -> Result<usize, Refusal>
     ensures { text_answered result (out.new ∷ []) ≡ number_call n after out.old at }
 {
     if is_short(out, at) {
-        return TextAnswer {
-            refusal: refusal::BUFFER,
-            end: 0,
-        };
+        return Err(Refusal::Buffer);
     }
-    let end = write_number(n, after, out, at);
-    TextAnswer { refusal: 0, end }
+    Ok(write_number(n, after, out, at))
 }

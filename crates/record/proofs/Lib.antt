@@ -1,2 +1,3 @@
 -- Laws of this crate that belong to no one function.
+pub mod Made
 pub mod One

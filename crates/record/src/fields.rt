@@ -10,6 +10,7 @@ use rdp::units::{LineWords, WordAddr};
 // The bytes before a record's bank.
 pub const HEAD: usize = 16;
 
+#[tactic(auto, unfolding(rules::specs::Lister::record_tile))]
 pub fn record_tile(bytes: &[u8]) -> TileDescriptor
     ensures { tile_of result ≡ record_tile bytes.now }
 {

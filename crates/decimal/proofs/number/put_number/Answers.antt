@@ -1,7 +1,6 @@
 -- `decimal::number::put_number` is refused where it found too little room, and else writes. Assumes nothing.
 use mathlib.Core.Path.{sym, ◌∙◌}
 use Prim.Native.Nat.{◌+◌, ◌≤◌}
-use native.Mathlib.Omega.{arith}
 use lib.ListN.{length}
 use borrow.Author.Tests.{ltb-true, ltb-false}
 use Rattle.rules.specs.Lister.{number_room, number_call}
@@ -18,11 +17,8 @@ returns-then-is_short c =
 enough : (c : Else-is_short) → c.args.at + number_room ≤ length c.args.out.now
 enough c = ltb-false _ _ (sym c.is_short.ensures ∙ c.if-is_short.false)
 
-pub write_number-end-requires : goal.write_number-end-requires
-write_number-end-requires c = omega (arith, enough (goal.at.write_number-end-requires c).Else-is_short)
-
 pub returns : goal.returns
 unfolding number_call
 returns c =
-    let w = c.write_number-end.ensures in
+    let w = c.write_number.ensures in
     text_done (c.args.at + number_room) c.args.out.now _ _ (enough (goal.at.returns c).Else-is_short) w.value w.out_after
