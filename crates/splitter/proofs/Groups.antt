@@ -1,24 +1,32 @@
 -- Laws of what is known of the groups: entry i is of the group that its body was led to, where it has the body of that group's first
 -- entry, and else begins a new group.
 use mathlib.Core.Path.{◌≡◌, ap, sym, subst, ◌∙◌}
-use mathlib.Core.Bool.{cond}
 use mathlib.Core.List.{List}
 use Prim.Native.Nat.{ℕ, suc, ◌+◌, ◌*◌, ◌<◌}
 use native.Mathlib.Omega.{arith}
 use native.Mathlib.Numerals.{add-one}
 use native.Mathlib.Decide.{dec_lt, ℕ_discrete}
-use lib.Dec.{eqb}
 use lib.ListN.{get_or, set, length-set, replicate, length-replicate}
 use lib.Seq.{get_or-set_same, get_or-set_other}
 use Rattle.rules.specs.Split.{entry_limit, first_of, groups_before, group_of}
 use Rattle.rules.proofs.Maps.{zeros_at}
 use Rattle.rules.proofs.Splits.{first_within, first_least, first-first, same_group, group_same}
-use Rattle.rules.proofs.Splits.{groups_more, groups_stay, groups_most, groups_order, groups_with, one_group, first_group}
+use Rattle.rules.proofs.Splits.{groups_more, groups_stay, groups_most, groups_order, one_group, first_group}
 use Rattle.splitter.specs.Bodies.{body_size}
-use Rattle.splitter.specs.Way.{Asked, asked, link, Ends, slot_after, Guides, Led, Known, more}
+use Rattle.splitter.specs.declared.group.Groups.{Groups}
+use Rattle.splitter.specs.Way.{Asked, link, Ends, slot_after, Guides, Led, Known, more}
 use Rattle.splitter.proofs.Ways.{old_led, new_led, more_guides}
 
-module _ (f : ℕ → List ℕ) (i n : ℕ) (firsts : List ℕ) (q : Asked) (kn : Known f i n firsts q) (s : ℕ) (led : Led q (f i) n s) where
+module _ (f : ℕ → List ℕ) (i : ℕ) (g : Groups) (kn : Known f i g) (s : ℕ) (led : Led g.questions (f i) g.count s) where
+  abbrev q : Asked
+  q = g.questions
+
+  abbrev n : ℕ
+  n = g.count
+
+  abbrev firsts : List ℕ
+  firsts = g.firsts
+
   abbrev first : ℕ
   first = get_or firsts (link q s) 0
 
@@ -28,19 +36,17 @@ module _ (f : ℕ → List ℕ) (i n : ℕ) (firsts : List ℕ) (q : Asked) (kn 
   pub old_group : f i ≡ f first → link q s ≡ group_of f i
   old_group e = sym (same_group f i first e ∙ kn.number (link q s) below)
 
-  pub old_known : f i ≡ f first → Known f (i + 1) (groups_before f (i + 1)) firsts q
+  pub old_known : f i ≡ f first → Known f (i + 1) g
   old_known e =
       let l : first_of f i < i = omega (arith, first_least f i first (sym e), kn.early (link q s) below) in
-      let k : n ≡ groups_before f (i + 1) = rw add-one (kn.groups ∙ sym (groups_stay f i l)) in
-      subst (λ m. Known f (i + 1) m firsts q) k
-      (record {
-        groups = k;
+      record {
+        groups = rw add-one (kn.groups ∙ sym (groups_stay f i l));
         guides = kn.guides;
         firsts_size = kn.firsts_size;
-        early = λ h g. omega (arith, kn.early h g);
+        early = λ h b. omega (arith, kn.early h b);
         number = kn.number;
         leads = kn.leads;
-      })
+      }
 
   -- a body that is known was led to its group
   begins : (f i ≡ f first → ⊥) → first_of f i ≡ i
@@ -48,13 +54,13 @@ module _ (f : ℕ → List ℕ) (i n : ℕ) (firsts : List ℕ) (q : Asked) (kn 
   begins other =
       elim (dec_lt (first_of f i) i) [
         | yes h ↦
-            let g : ℕ = group_of f i in
-            let b : g < n = omega (arith, groups_order f (first_of f i) i (first-first f i) h, kn.groups) in
-            let same : f i ≡ f (get_or firsts g 0) = sym (group_same f (get_or firsts g 0) i (kn.number g b)) in
+            let o : ℕ = group_of f i in
+            let b : o < n = omega (arith, groups_order f (first_of f i) i (first-first f i) h, kn.groups) in
+            let same : f i ≡ f (get_or firsts o 0) = sym (group_same f (get_or firsts o 0) i (kn.number o b)) in
             let w = led.passes in
-            let there : slot_after q (f (get_or firsts g 0)) w.questions ≡ s =
+            let there : slot_after q (f (get_or firsts o 0)) w.questions ≡ s =
             ap (λ m. slot_after q m w.questions) (sym same) ∙ w.there in
-            let is : link q s ≡ g = sym (ap (link q) there) ∙ kn.leads g w.questions b (rw there led.ends) in
+            let is : link q s ≡ o = sym (ap (link q) there) ∙ kn.leads o w.questions b (rw there led.ends) in
             absurd (other (same ∙ ap (λ m. f (get_or firsts m 0)) (sym is)))
         | no h ↦ omega (arith, h, first_within f i)
       ]
@@ -106,27 +112,30 @@ module _ (f : ℕ → List ℕ) (i n : ℕ) (firsts : List ℕ) (q : Asked) (kn 
               )
         ]
 
-    with_question : Known f (i + 1) (groups_before f (i + 1)) (set firsts n i) q'
+    -- the groups with the new one
+    abbrev g' : Groups
+    g' = record { count = n + 1; firsts = set firsts n i; questions = q' }
+
+    with_question : Known f (i + 1) g'
     with_question =
-        let k : n + 1 ≡ groups_before f (i + 1) = rw (add-one n, add-one i) (ap suc kn.groups ∙ sym (groups_more f i new_first)) in
-        subst (λ m. Known f (i + 1) m (set firsts n i) q') k
-        (record {
-          groups = k;
+        record {
+          groups = rw (add-one n, add-one i) (ap suc kn.groups ∙ sym (groups_more f i new_first));
           guides = more_guides q n kn.guides (fits room) (f i) s x led inside;
           firsts_size = rw length-set kn.firsts_size;
           early = early;
           number = number;
           leads = leads;
-        })
+        }
 
-    pub new_known : (b : List ℕ) (now : Asked) → b ≡ f i → now ≡ more q n s x (get_or b x 0)
-        → Known f (i + 1) (groups_before f (i + 1)) (set firsts n i) now
-    new_known b now e a =
-        let is : now ≡ q' = a ∙ ap (λ m. more q n s x (get_or m x 0)) e in
-        subst (λ m. Known f (i + 1) (groups_before f (i + 1)) (set firsts n i) m) (sym is) with_question
+    pub new_known : (b : List ℕ) (now : Groups) → b ≡ f i → now.count ≡ n + 1 → now.firsts ≡ set firsts n i
+        → now.questions ≡ more q n s x (get_or b x 0) → Known f (i + 1) now
+    new_known b now e c d a =
+        let is : now.questions ≡ q' = a ∙ ap (λ m. more q n s x (get_or m x 0)) e in
+        let same : now ≡ g' = λ j. record { count = c j; firsts = d j; questions = is j } in
+        subst (λ m. Known f (i + 1) m) (sym same) with_question
 
 abbrev none : Asked
-none = asked (replicate (2 * entry_limit) 0) (replicate entry_limit 0) (replicate entry_limit 0)
+none = record { links = replicate (2 * entry_limit) 0; places = replicate entry_limit 0; values = replicate entry_limit 0 }
 
 none_guides : Guides none 1
 none_guides =
@@ -141,7 +150,7 @@ none_guides =
     }
 
 -- The first entry begins group 0, at which every way ends.
-pub start_known : (f : ℕ → List ℕ) → Known f 1 1 (replicate entry_limit 0) none
+pub start_known : (f : ℕ → List ℕ) → Known f 1 (record { count = 1; firsts = replicate entry_limit 0; questions = none })
 start_known f =
     record {
       groups = sym (one_group f);
@@ -151,10 +160,3 @@ start_known f =
       number = λ h l. let e : h ≡ 0 = omega arith in rw (zeros_at entry_limit h, e) (first_group f);
       leads = λ h k l e. omega (arith, zeros_at (2 * entry_limit) (slot_after none (f (get_or (replicate entry_limit 0) h 0)) k));
     }
-
--- n groups are r once entry i has its group
-pub next_known : (f : ℕ → List ℕ) (i n r group : ℕ) (firsts : List ℕ) (q : Asked) → n ≡ groups_before f i → group ≡ group_of f i
-    → r ≡ cond (eqb group n) (n + 1) n → Known f (i + 1) (groups_before f (i + 1)) firsts q → Known f (i + 1) r firsts q
-next_known f i n r group firsts q known is counted k =
-    let e : r ≡ groups_before f (i + 1) = counted ∙ (rw (known, is) (groups_with f i)) in
-    subst (λ m. Known f (i + 1) m firsts q) (sym e) k

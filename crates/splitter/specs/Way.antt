@@ -5,14 +5,11 @@
 use Rattle.std.specs.Prelude.{◌≡◌, Bool, true, cond, List, ℕ, zero, suc, ◌+◌, ◌*◌, ◌/◌, ◌<◌, ◌≤◌, eqb, ltb, length, get_or, set}
 use Rattle.rules.specs.Split.{entry_limit, groups_before, group_of}
 use Rattle.splitter.specs.Bodies.{body_size}
+use Rattle.splitter.specs.declared.way.Questions.{Questions}
+use Rattle.splitter.specs.declared.group.Groups.{Groups}
 
-pub record Asked : Type 0 where
-  pub links : List ℕ
-  pub places : List ℕ
-  pub values : List ℕ
-
-abbrev pub asked : List ℕ → List ℕ → List ℕ → Asked
-asked links places values = record { links = links; places = places; values = values }
+abbrev pub Asked : Type 0
+Asked = Questions
 
 -- what stands in slot s
 abbrev pub link : Asked → ℕ → ℕ
@@ -51,7 +48,7 @@ on_no links n e = set (on_yes links n e) (2 * n + 1) (get_or links e 0)
 
 -- question n, for byte v at place x, is added in slot e
 abbrev pub more : Asked → ℕ → ℕ → ℕ → ℕ → Asked
-more q n e x v = asked (on_no q.links n e) (set q.places n x) (set q.values n v)
+more q n e x v = record { links = on_no q.links n e; places = set q.places n x; values = set q.values n v }
 
 -- a body's way comes by slot s
 pub record Passes (q : Asked) (b : List ℕ) (s : ℕ) : Type 0 where
@@ -81,12 +78,13 @@ pub record Led (q : Asked) (b : List ℕ) (n s : ℕ) : Type 0 where
   pub ends : Ends q s
   pub passes : Passes q b s
 
--- what is known of bodies f once i entries have their side: n groups, each with the entry that began it, and the way of that entry's
+-- what is known of bodies f once i entries have their side: the groups, each with the entry that began it, and the way of that entry's
 -- body ends at its group
-pub record Known (f : ℕ → List ℕ) (i n : ℕ) (firsts : List ℕ) (q : Asked) : Type 0 where
-  pub groups : n ≡ groups_before f i
-  pub guides : Guides q n
-  pub firsts_size : length firsts ≡ entry_limit
-  pub early : (h : ℕ) → h < n → get_or firsts h 0 < i
-  pub number : (h : ℕ) → h < n → group_of f (get_or firsts h 0) ≡ h
-  pub leads : (h k : ℕ) → h < n → Ends q (slot_after q (f (get_or firsts h 0)) k) → link q (slot_after q (f (get_or firsts h 0)) k) ≡ h
+pub record Known (f : ℕ → List ℕ) (i : ℕ) (g : Groups) : Type 0 where
+  pub groups : g.count ≡ groups_before f i
+  pub guides : Guides g.questions g.count
+  pub firsts_size : length g.firsts ≡ entry_limit
+  pub early : (h : ℕ) → h < g.count → get_or g.firsts h 0 < i
+  pub number : (h : ℕ) → h < g.count → group_of f (get_or g.firsts h 0) ≡ h
+  pub leads : (h k : ℕ) → h < g.count → Ends g.questions (slot_after g.questions (f (get_or g.firsts h 0)) k)
+      → link g.questions (slot_after g.questions (f (get_or g.firsts h 0)) k) ≡ h

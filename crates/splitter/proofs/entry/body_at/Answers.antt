@@ -3,6 +3,7 @@ use mathlib.Core.Path.{◌≡◌, ap, sym, ◌∙◌}
 use Prim.Native.Nat.{ℕ, ◌+◌, ◌-◌, ◌*◌}
 use native.Mathlib.Omega.{arith}
 use lib.ListN.{take, drop}
+use borrow.Author.Rules.{rules}
 use Rattle.rules.specs.Split.{entry_size, capture_size}
 use Rattle.splitter.specs.Bodies.{body_size}
 use Rattle.splitter.proofs.Bodies.{body_part}
@@ -13,4 +14,5 @@ returns c =
     let a = c.args in
     let start : ℕ = a.i * entry_size + capture_size in
     let size : (start + body_size) - start ≡ body_size = omega arith in
-    ap (λ n. take n (drop start a.entries.now)) size ∙ sym (body_part a.entries.now a.i)
+    let part : c.unwrap.result.now ≡ take (start + body_size - start) (drop start a.entries.now) = search rules in
+    part ∙ ap (λ n. take n (drop start a.entries.now)) size ∙ sym (body_part a.entries.now a.i)

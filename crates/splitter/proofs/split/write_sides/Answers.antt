@@ -5,9 +5,9 @@ use native.Mathlib.Omega.{arith}
 use native.Mathlib.Numerals.{add-one}
 use lib.ListN.{length, length-set}
 use lib.Seq.{take-suc-set}
+use borrow.Author.Tests.{eqb-true, eqb-false}
 use Rattle.rules.specs.Split.{body_at, group_of, turn}
 use Rattle.rules.proofs.Splits.{no_sides, no_totals, one_side, none_held_out, sides-more, held_out_more, held_out_within, turn-most}
-use Rattle.splitter.proofs.Groups.{start_known, next_known}
 use Rattle.splitter.proofs.split.write_sides.Goals.{At-loop-i}
 use Rattle.splitter.proofs.split.write_sides.Goals as goal
 
@@ -15,25 +15,26 @@ use Rattle.splitter.proofs.split.write_sides.Goals as goal
 size : (c : At-loop-i) → length c.loop-i.out ≡ length c.args.out.now
 size c = c.loop-i.invariant.2 ∙ length-set c.args.out.now 0 0
 
-pub returns-then-out-eq0 : goal.returns-then-out-eq0
-returns-then-out-eq0 c =
+pub returns-then-is_empty : goal.returns-then-is_empty
+returns-then-is_empty c =
     let f = body_at c.args.entries.now in
+    let none = eqb-true (length c.args.out.now) 0 (sym c.if-is_empty.ensures) in
     record {
-      sides_written = no_sides f c.args.out.now c.if-out-eq0.true;
-      counted = sym (no_totals f c.args.out.now c.if-out-eq0.true);
+      sides_written = no_sides f c.args.out.now none;
+      counted = sym (no_totals f c.args.out.now none);
     }
 
 pub loop-i-init : goal.loop-i-init
 loop-i-init c =
     let f = body_at c.args.entries.now in
     let out = c.args.out.now in
-    let some : 0 < length out = omega (arith, c.if-out-eq0.false) in (
+    let some : 0 < length out = omega (arith, eqb-false (length out) 0 (sym c.if-is_empty.ensures)) in (
       omega arith,
       rw length-set some,
       refl,
       take-suc-set out 0 0 some ∙ sym (one_side f),
       sym (none_held_out f),
-      start_known f,
+      c.new-groups.ensures f,
     )
 
 pub overflow_add-held_out : goal.overflow_add-held_out
@@ -50,11 +51,12 @@ loop-i-preserved c =
     let g = c.group_of-group.ensures in
     let side = c.side_of-side in
     let f = body_at c.args.entries.now in
-    let front = take-suc-set l.out l.i side.result c.loop-i-test.true in (
+    let within : l.i < length l.out = omega (arith, c.loop-i-test.true, l.invariant.2) in
+    let front = take-suc-set l.out l.i side.result within in (
       omega arith,
       rw length-set (omega arith),
       length-set l.out l.i side.result ∙ l.invariant.2,
       rw (add-one, front, l.invariant.3, side.ensures, g.group) (sym (rw add-one at (sides-more f l.i))),
       rw (l.invariant.4, side.ensures, g.group) (sym (held_out_more f l.i)),
-      next_known f l.i _ _ _ _ _ l.invariant.5.groups g.group c.groups_with-groups.ensures g.known_after,
+      g.known_after,
     )

@@ -4,7 +4,7 @@ use mathlib.Core.Path.{◌≡◌}
 use Prim.Native.Nat.{◌-◌, ◌≤◌, ◌<◌}
 use lib.ListN.{length, take}
 use Rattle.rules.specs.Split.{body_at, sides, total}
-use Rattle.splitter.specs.Way.{asked, Known}
+use Rattle.splitter.specs.Way.{Known}
 use Rattle.splitter.proofs.split.write_sides.Given as goal
 
 abbrev pub invariant-loop-i : goal.invariant-loop-i
@@ -14,7 +14,7 @@ invariant-loop-i l =
     × (length l.out ≡ length l.initial.out)
     × (take l.i l.out ≡ sides (body_at l.entries) l.i)
     × (l.held_out ≡ total 1 (sides (body_at l.entries) l.i))
-    × Known (body_at l.entries) l.i l.groups l.firsts (asked l.links l.places l.values)
+    × Known (body_at l.entries) l.i l.groups
 
 abbrev pub decreases-loop-i : goal.decreases-loop-i
 decreases-loop-i l = length l.out - l.i

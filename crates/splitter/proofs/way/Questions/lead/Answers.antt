@@ -1,7 +1,7 @@
--- `splitter::way::lead` goes the way of a body. Assumes nothing.
+-- `splitter::way::Questions::lead` goes the way of a body. Assumes nothing.
 use native.Mathlib.Omega.{arith}
 use Rattle.splitter.proofs.Ways.{starts, passes_yes}
-use Rattle.splitter.proofs.way.lead.Goals as goal
+use Rattle.splitter.proofs.way.Questions.lead.Goals as goal
 
 pub loop-groups-init : goal.loop-groups-init
 loop-groups-init c = (omega (arith, c.requires.guides.some), starts _ _)

@@ -1,8 +1,8 @@
--- `splitter::way::pass_noes` goes the way of a body while its answers are noes. Assumes nothing.
+-- `splitter::way::Questions::pass_noes` goes the way of a body while its answers are noes. Assumes nothing.
 use mathlib.Core.Path.{sym, ◌∙◌}
 use native.Mathlib.Omega.{arith}
 use Rattle.splitter.proofs.Ways.{passes_no}
-use Rattle.splitter.proofs.way.pass_noes.Goals as goal
+use Rattle.splitter.proofs.way.Questions.pass_noes.Goals as goal
 
 pub loop-at-preserved : goal.loop-at-preserved
 loop-at-preserved c =
