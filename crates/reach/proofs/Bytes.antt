@@ -7,10 +7,12 @@ use native.Mathlib.Omega.{arith}
 use native.Mathlib.Decide.{ℕ_discrete, dec_lt}
 use native.Mathlib.Nat.{one-mul, zero-div, mod-eq_of_lt}
 use lib.Bits.{bit_and, bit_or, and_step, or_step, or_shr, and_shr, or_zero_r, and_zero_r}
-use lib.Bits.{and_le_l, and_le_r, and_comm, and_mask, or_add_and}
+use lib.Bits.{and_le_l, and_le_r, and_comm, and_mask, and_block, or_add_and, or_disjoint}
 use lib.Dec.{eqb, ltb}
-use lib.ListN.{get_or}
-use lib.Pow.{shl_exact, shl-shr}
+use lib.ListN.{get_or, take, drop}
+use lib.Pow.{shl_exact, shl-shr, pow_pos}
+use Rattle.std.specs.Int.{w64, from_le_bytes}
+use Rattle.std.proofs.lemmas.List.{get_or-take, get_or-drop}
 use borrow.Author.Tests.{eq-eqb, ne_eqb, lt-ltb, le-ltb}
 use Rattle.rules.specs.Base.{one, marked, number_at, is_written}
 use Rattle.rules.proofs.Bits.{more_bits, ones}
@@ -242,3 +244,57 @@ pub blank_both : (m : List ℕ) (twice : Bool) (w bits : ℕ) → word_bytes m w
 unfolding word_meets
 blank_both m true w bits e f = rw (blank_meets m w bits e, blank_meets m (w + low_words) bits (f refl))
 blank_both m false w bits e f = blank_meets m w bits e
+
+-- a byte above some bits in one number is added to them
+or_above : (k x b : ℕ) → x < 2 ^ k → bit_or x (b * 2 ^ k) ≡ x + b * 2 ^ k
+or_above k x b h = or_disjoint x (b * 2 ^ k) apart
+  where
+    apart : bit_and x (b * 2 ^ k) ≡ 0
+    apart =
+        let e = and_block k 0 b x 0 h (pow_pos k) in
+        let low : 0 * 2 ^ k + x ≡ x = omega arith in
+        let high : b * 2 ^ k + 0 ≡ b * 2 ^ k = omega arith in
+        let none : 0 * 2 ^ k + 0 ≡ 0 = omega arith in
+        (rw (low, high, and_zero_r x) at e) ∙ none
+
+-- eight bytes that follow each other, added up, are one number
+eight_above : (a b c d e f h i : ℕ) → a < 256 → b < 256 → c < 256 → d < 256 → e < 256 → f < 256 → h < 256
+    → bit_or
+    (bit_or (bit_or (bit_or (bit_or (bit_or (bit_or (a * 1) (b * 2 ^ 8)) (c * 2 ^ 16)) (d * 2 ^ 24)) (e * 2 ^ 32)) (f * 2 ^ 40))
+    (h * 2 ^ 48))
+    (i * 2 ^ 56)
+    ≡ a + b * 2 ^ 8 + c * 2 ^ 16 + d * 2 ^ 24 + e * 2 ^ 32 + f * 2 ^ 40 + h * 2 ^ 48 + i * 2 ^ 56
+eight_above a b c d e f h i p q r s t u v =
+    rw (
+      or_above 8 (a * 1) b (omega arith),
+      or_above 16 (a * 1 + b * 2 ^ 8) c (omega arith),
+      or_above 24 (a * 1 + b * 2 ^ 8 + c * 2 ^ 16) d (omega arith),
+      or_above 32 (a * 1 + b * 2 ^ 8 + c * 2 ^ 16 + d * 2 ^ 24) e (omega arith),
+      or_above 40 (a * 1 + b * 2 ^ 8 + c * 2 ^ 16 + d * 2 ^ 24 + e * 2 ^ 32) f (omega arith),
+      or_above 48 (a * 1 + b * 2 ^ 8 + c * 2 ^ 16 + d * 2 ^ 24 + e * 2 ^ 32 + f * 2 ^ 40) h (omega arith),
+      or_above 56 (a * 1 + b * 2 ^ 8 + c * 2 ^ 16 + d * 2 ^ 24 + e * 2 ^ 32 + f * 2 ^ 40 + h * 2 ^ 48) i (omega arith),
+    )
+    (omega arith)
+
+pub sum_eight : (m : List ℕ) (from : ℕ) → ((i : ℕ) → get_or m i 0 < 256) → from_le_bytes w64 (take 8 (drop from m)) ≡ eight_bytes m from
+unfolding eight_bytes ors
+sum_eight m from small =
+    rw (
+      here 0 (omega arith),
+      here 1 (omega arith),
+      here 2 (omega arith),
+      here 3 (omega arith),
+      here 4 (omega arith),
+      here 5 (omega arith),
+      here 6 (omega arith),
+      here 7 (omega arith),
+    )
+    (sym
+    (eight_above (at 0) (at 1) (at 2) (at 3) (at 4) (at 5) (at 6) (at 7)
+    (small _) (small _) (small _) (small _) (small _) (small _) (small _)))
+  where
+    at : ℕ → ℕ
+    at i = get_or m (from + i) 0
+
+    here : (i : ℕ) → i < 8 → get_or (take 8 (drop from m)) i 0 ≡ get_or m (from + i) 0
+    here i h = get_or-take 8 (drop from m) i 0 h ∙ get_or-drop from m i 0

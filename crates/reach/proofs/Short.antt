@@ -13,7 +13,7 @@ use Rattle.rules.specs.Tile.{Tile, bank_words}
 use Rattle.rules.specs.Reach.{row_bytes, reach_row, first_reason}
 use Rattle.reach.specs.Words.{ors}
 use Rattle.reach.specs.declared.span.Span.{Span}
-use Rattle.reach.specs.Span.{words_of, word_count, word_in, lanes_in, eight_in, word_reached, row_span, row_lanes, BlankFours}
+use Rattle.reach.specs.Span.{lower, words_of, word_count, word_in, lanes_in, eight_in, word_reached, row_span, row_lanes, BlankFours}
 use Rattle.reach.proofs.Joined.{none_all, reason_search}
 use Rattle.reach.proofs.Bytes.{ors_zero}
 use Rattle.reach.proofs.Spans.{reached_words, row_reached}
@@ -31,10 +31,9 @@ module _ (m : List ℕ) (t : Tile) (mode : ℕ) where
   row_word : (y : ℕ) → word_in (row y) 0 ≡ word_in (row 0) (y * t.line)
   row_word y =
       let none : 0 * t.line ≡ 0 = omega arith in
-      rw none (stepped (row y).low t.tmem_addr (y * t.line))
+      rw none (stepped (lower (row y).part) t.tmem_addr (y * t.line))
 
   row_eight : (y : ℕ) → eight_in m (row y) 0 ≡ eight_in m (row 0) (y * t.line)
-  unfolding eight_in
   row_eight y = rw (row_word y)
 
   row-lanes : (y z : ℕ) → y % 2 ≡ z % 2 → lanes_in (row y) 0 ≡ lanes_in (row z) 0

@@ -8,8 +8,10 @@ use native.Mathlib.Omega.{arith}
 use native.Mathlib.Nat.{mul_assoc, mul_comm, mod-eq_of_lt}
 use lib.Bits.{bit_and, bit_xor, xor_block, xor_zero_r, xor_lt}
 use lib.Dec.{ltb, leb}
-use borrow.Author.Tests.{le-leb, eq-eqb, ne_eqb}
-use Rattle.rules.specs.Base.{odd, tab, concat, any, marks, is_written}
+use Rattle.std.specs.Int.{Width, w8, w64, rotate_left}
+use native.Mathlib.Decide.{dec_lt}
+use borrow.Author.Tests.{le-leb, lt-leb, lt-ltb, le-ltb, eq-eqb, ne_eqb}
+use Rattle.rules.specs.Base.{odd, tab, tab_from, concat, any, marks, is_written}
 use Rattle.rules.specs.Tile.{Tile, bank_size, bank_words, palette_base}
 use Rattle.rules.specs.Texdec.{tlut}
 use Rattle.rules.specs.Sampling.{is_rgba32}
@@ -21,10 +23,9 @@ use Rattle.rdp.specs.declared.units.WordAddr.{WordAddr}
 use Rattle.reach.specs.Words.{ors, low_words, twin, word_joined, word_meets}
 use Rattle.reach.proofs.Words.{word_marks, word_any}
 use Rattle.reach.specs.declared.span.Span.{Span}
-use Rattle.reach.specs.Span.{Bounds, words_of, bytes_of, step_of, places_in, reached_at, reached, in_halves}
-use Rattle.reach.specs.Span.{low_half, both_halves, row_span, word_count, word_in, places_of, byte_of, bits_in, place_reached}
-use Rattle.reach.specs.Span.{word_reached}
-use Rattle.reach.proofs.Axes.{row_bytes-le}
+use Rattle.reach.specs.declared.span.Part.TheVariants.{Whole, Lower, Both}
+use Rattle.reach.specs.Span.{lower, both, part_of, words_of, bytes_of, step_of, places_in, reached_at, reached}
+use Rattle.reach.specs.Span.{row_span, word_count, word_in, places_of, byte_of, bits_in, place_reached, word_reached}
 
 -- the swap of halves stays in its word
 swap_word : (o : Bool) (q x : ℕ) → swap_odd o (8 * q + x) ≡ 8 * q + swap_odd o x
@@ -90,13 +91,13 @@ module _ (s : Span) where
       go false q = omega arith
 
   -- a word is marked, or looked at
-  pub marks_word : (w : ℕ) (m : List ℕ) → marks m (word_reached s w) ≡ word_joined s.twice m (word_in s w) (bits_in s w)
+  pub marks_word : (w : ℕ) (m : List ℕ) → marks m (word_reached s w) ≡ word_joined (both s.part) m (word_in s w) (bits_in s w)
   unfolding word_reached place_reached bits_in
-  marks_word w m = word_marks (word_in s w) s.twice (byte_of s) m (places_of s w) (byte-lt w)
+  marks_word w m = word_marks (word_in s w) (both s.part) (byte_of s) m (places_of s w) (byte-lt w)
 
-  pub any_word : (w : ℕ) (m : List ℕ) → any (is_written m) (word_reached s w) ≡ word_meets s.twice m (word_in s w) (bits_in s w)
+  pub any_word : (w : ℕ) (m : List ℕ) → any (is_written m) (word_reached s w) ≡ word_meets (both s.part) m (word_in s w) (bits_in s w)
   unfolding word_reached place_reached bits_in
-  any_word w m = word_any (word_in s w) m s.twice (byte_of s) (places_of s w) (byte-lt w)
+  any_word w m = word_any (word_in s w) m (both s.part) (byte_of s) (places_of s w) (byte-lt w)
 
 -- where word w is one of the span's
 module _ (s : Span) (w : ℕ) (h : 8 * w < s.bytes) where
@@ -120,7 +121,7 @@ module _ (s : Span) (w : ℕ) (h : 8 * w < s.bytes) where
   unfolding reached_at place_reached
   in_word k q =
       let at : 8 * s.first.0 + (8 * w + byte_of s k) ≡ 8 * (s.first.0 + w) + byte_of s k = omega arith in
-      rw (place k, swap_word s.odd w (step_of s.sparse * k), at, wrapped s.low (s.first.0 + w) (byte_of s k) (byte-lt s w k q))
+      rw (place k, swap_word s.odd w (step_of s.sparse * k), at, wrapped (lower s.part) (s.first.0 + w) (byte_of s k) (byte-lt s w k q))
 
   word_more : concat (tab (cut_at s (w + 1)) (reached_at s)) ≡ concat (tab (cut_at s w) (reached_at s)) ++ word_reached s w
   unfolding word_reached
@@ -139,9 +140,18 @@ module _ (s : Span) where
   unfolding reached
   reached_words = rw (← cut_all s (word_count s) (omega arith)) (words_to (word_count s) (omega arith))
 
+  -- where it is one word, that of the word
+  pub only_word : word_count s ≡ 1 → reached s ≡ word_reached s 0
+  unfolding concat tab tab_from
+  only_word e = reached_words ∙ ap (λ n. concat (tab n (word_reached s))) e ∙ concat-more 0 (word_reached s)
+
+-- a number whose halves change places on odd rows
+abbrev pub turned : Width → ℕ → Bool → ℕ → ℕ
+turned w half odd n = cond odd (rotate_left w n half) n
+
 -- the bits of the first n bytes of a word as they are made, and as the places have them
 abbrev made : Bool → Bool → ℕ → ℕ
-made sparse odd n = cond sparse (bit_and (in_halves 4 odd (2 ^ n - 1)) 85) (in_halves 4 odd (2 ^ n - 1))
+made sparse odd n = cond sparse (bit_and (turned w8 4 odd (2 ^ n - 1)) 85) (turned w8 4 odd (2 ^ n - 1))
 
 abbrev placed : Bool → Bool → ℕ → ℕ
 placed sparse odd n = ors (places_in sparse n) (λ j. 2 ^ swap_odd odd (step_of sparse * j))
@@ -155,9 +165,11 @@ bits_placed false true n h = agree_below 9 (made false true) (placed false true)
 bits_placed false false n h = agree_below 9 (made false false) (placed false false) tt n (omega arith)
 
 -- and so for all bits of those bytes
+abbrev pub full : ℕ → ℕ
+full n = 2 ^ (8 * n) - 1
+
 abbrev made_lanes : Bool → Bool → ℕ → ℕ
-made_lanes sparse odd n =
-    cond sparse (bit_and (in_halves 32 odd (2 ^ (8 * n) - 1)) 71777214294589695) (in_halves 32 odd (2 ^ (8 * n) - 1))
+made_lanes sparse odd n = cond sparse (bit_and (turned w64 32 odd (full n)) 71777214294589695) (turned w64 32 odd (full n))
 
 abbrev placed_lanes : Bool → Bool → ℕ → ℕ
 placed_lanes sparse odd n = ors (places_in sparse n) (λ j. 255 * 2 ^ (8 * swap_odd odd (step_of sparse * j)))
@@ -178,34 +190,46 @@ row_place low first word line y x o f =
     rw (f, e, swap_word o (y * line) x, ← at) (wrapped_once low (word + y * line) (swap_odd o x))
 
 module _ (t : Tile) (mode : ℕ) where
-  low_where_both : both_halves t mode ≡ true → low_half t mode ≡ true
-  low_where_both = go (ltb mode 2) (tlut mode) (is_rgba32 t.fmt t.siz)
+  -- the part of a tile is the rules' modulus, and says which addresses are doubled
+  part_modulus : bytes_of (lower (part_of t mode)) ≡ modulus t mode
+  part_modulus = go (tlut mode) (is_rgba32 t.fmt t.siz)
     where
-      go : (a b c : Bool) → (a && c) ≡ true → (b || c) ≡ true
-      go a true c h = refl
-      go a false true h = refl
-      go true false false h = h
-      go false false false h = h
+      go : (a b : Bool) → bytes_of (lower (cond a Lower (cond b Both Whole))) ≡ cond (a || b) palette_base bank_size
+      go true b = refl
+      go false true = refl
+      go false false = refl
+
+  part_both : both (part_of t mode) ≡ (ltb mode 2 && is_rgba32 t.fmt t.siz)
+  part_both = go (dec_lt mode 2) (is_rgba32 t.fmt t.siz)
+    where
+      go : Dec (mode < 2) → (b : Bool) → both (cond (tlut mode) Lower (cond b Both Whole)) ≡ (ltb mode 2 && b)
+      go (yes h) true = rw (lt-leb 2 mode h, lt-ltb mode 2 h)
+      go (yes h) false = rw (lt-leb 2 mode h, lt-ltb mode 2 h)
+      go (no h) b = rw (le-leb 2 mode (omega (arith, h)), le-ltb mode 2 (omega (arith, h)))
+
+  part_doubled : (a : ℕ) → twin (both (part_of t mode)) a ≡ doubled t mode a
+  unfolding twin doubled
+  part_doubled a = rw part_both
 
   -- a lookup as a span
   abbrev whole_span : Span
   whole_span =
       record {
         first = record { 0 = 0 };
-        bytes = modulus t mode;
+        bytes = bytes_of (lower (part_of t mode));
         odd = false;
         sparse = false;
-        low = low_half t mode;
-        twice = both_halves t mode;
+        part = part_of t mode;
       }
 
   pub whole_reached : reached whole_span ≡ reach_whole t mode
-  unfolding reached reached_at reach_whole doubled twin
+  unfolding reached reached_at reach_whole
   whole_reached =
       let n : places_in false (modulus t mode) ≡ modulus t mode = omega arith in
       ap concat
-      (ap (λ n. tab n (reached_at whole_span)) n
-      ∙ tab-same (modulus t mode) (reached_at whole_span) (doubled t mode) (λ k h. ap (twin (both_halves t mode)) (at k h)))
+      (ap (λ n. tab n (reached_at whole_span)) (ap (places_in false) part_modulus ∙ n)
+      ∙ tab-same (modulus t mode) (reached_at whole_span) (doubled t mode) (λ k h.
+      ap (twin (both (part_of t mode))) (ap (λ b. (8 * 0 + 1 * k) % b) part_modulus ∙ at k h) ∙ part_doubled k))
     where
       at : (k : ℕ) → k < modulus t mode → (8 * 0 + 1 * k) % modulus t mode ≡ k
       at k h = let e : 8 * 0 + 1 * k ≡ k = omega arith in rw e (mod-eq_of_lt h)
@@ -217,20 +241,18 @@ module _ (t : Tile) (mode : ℕ) where
         bytes = row_bytes t;
         odd = odd y;
         sparse = tlut mode && leb 2 t.siz;
-        low = low_half t mode;
-        twice = both_halves t mode;
+        part = part_of t mode;
       } ≡ row_span t mode y
   row_from first y e = rw e
 
   pub row_reached : (y : ℕ) → reached (row_span t mode y) ≡ reach_row t mode y
-  unfolding reached reached_at reach_row reach_at doubled twin
+  unfolding reached reached_at reach_row reach_at
   row_reached y =
-      ap concat
-      (tab-same (x_count t mode) (reached_at (row_span t mode y)) (reach_at t mode y)
-      (λ i h. ap (twin (both_halves t mode)) (row_place (low_half t mode) _ t.tmem_addr t.line y (x_step t mode * i) (odd y) refl)))
-
-  pub row_bounds : (y : ℕ) → Bounds (row_span t mode y)
-  row_bounds y = record { bytes = row_bytes-le t; twice = low_where_both }
+      ap concat (tab-same (x_count t mode) (reached_at (row_span t mode y)) (reach_at t mode y) (λ i h.
+      ap (twin (both (part_of t mode)))
+      (row_place (lower (part_of t mode)) _ t.tmem_addr t.line y (x_step t mode * i) (odd y) refl
+      ∙ ap (λ b. address b (8 * t.tmem_addr) (odd y) (y * (8 * t.line) + x_step t mode * i)) part_modulus)
+      ∙ part_doubled _))
 
 -- lists of one number each
 concat-one : (n : ℕ) (f : ℕ → ℕ) → concat (tab n (λ i. f i ∷ [])) ≡ tab n f
@@ -247,8 +269,7 @@ module _ (word bytes : ℕ) (h : 8 * word + bytes ≤ palette_base) where
         bytes = bytes;
         odd = false;
         sparse = false;
-        low = false;
-        twice = false;
+        part = Whole;
       }
 
   pub upper-reached : reached upper_span ≡ tab bytes (λ i. palette_base + 8 * word + i)

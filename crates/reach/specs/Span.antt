@@ -1,14 +1,27 @@
 -- What a span reaches, and its words. It only names what the rules' lists of a row and of a lookup share.
-use Rattle.std.specs.Prelude.{◌≡◌, Bool, true, cond, ◌&&◌, ◌||◌, List, ℕ, ◌+◌, ◌*◌, ◌-◌, ◌/◌, ◌%◌, ◌^◌, ◌<◌, ◌≤◌, min, ltb, leb}
-use Rattle.std.specs.Int.Bits.{bit_and, bit_or}
+use Rattle.std.specs.Prelude.{◌≡◌, Bool, true, false, cond, ◌&&◌, List, ℕ, ◌+◌, ◌*◌, ◌-◌, ◌/◌, ◌%◌, ◌^◌, ◌<◌, min, leb}
+use Rattle.std.specs.Int.Bits.{bit_and}
 use Rattle.rules.specs.Base.{odd, tab, concat}
 use Rattle.rules.specs.Tile.{Tile, bank_size, palette_base, bank_words}
 use Rattle.rules.specs.Texdec.{tlut}
 use Rattle.rules.specs.Sampling.{is_rgba32}
 use Rattle.rules.specs.Picture.{address, swap_odd}
 use Rattle.rules.specs.Reach.{row_bytes}
-use Rattle.reach.specs.Words.{ors, eight_bytes, low_words, twin}
+use Rattle.reach.specs.Words.{ors, word_eight, low_words, twin}
 use Rattle.reach.specs.declared.span.Span.{Span}
+use Rattle.reach.specs.declared.span.Part.{Part}
+use Rattle.reach.specs.declared.span.Part.TheVariants.{Whole, Lower, Both}
+
+-- the addresses are in the lower half; each stands for one in the upper half as well
+abbrev pub lower : Part → Bool
+lower Whole = false
+lower Lower = true
+lower Both = true
+
+abbrev pub both : Part → Bool
+both Whole = false
+both Lower = false
+both Both = true
 
 -- the words of the bank, or of its lower half, and their bytes
 abbrev pub words_of : Bool → ℕ
@@ -26,7 +39,7 @@ places_in sparse n = (n + (step_of sparse - 1)) / step_of sparse
 
 -- what place i reaches
 unfoldable pub reached_at : Span → ℕ → List ℕ
-reached_at s i = twin s.twice (address (bytes_of s.low) (8 * s.first.0) s.odd (step_of s.sparse * i))
+reached_at s i = twin (both s.part) (address (bytes_of (lower s.part)) (8 * s.first.0) s.odd (step_of s.sparse * i))
 
 unfoldable pub reached : Span → List ℕ
 reached s = concat (tab (places_in s.sparse s.bytes) (reached_at s))
@@ -35,9 +48,13 @@ reached s = concat (tab (places_in s.sparse s.bytes) (reached_at s))
 abbrev pub word_count : Span → ℕ
 word_count s = (s.bytes + 7) / 8
 
+-- more words than a span can have
+abbrev pub most_words : ℕ
+most_words = 2 ^ 61
+
 -- where word w is in the bank
 abbrev pub word_in : Span → ℕ → ℕ
-word_in s w = (s.first.0 + w) % words_of s.low
+word_in s w = (s.first.0 + w) % words_of (lower s.part)
 
 -- how many places it has, the byte of place k, and its bits
 abbrev pub places_of : Span → ℕ → ℕ
@@ -55,32 +72,22 @@ lanes_in s w = ors (places_of s w) (λ k. 255 * 2 ^ (8 * byte_of s k))
 
 -- what place k of word w reaches, and what the word does
 unfoldable pub place_reached : Span → ℕ → ℕ → List ℕ
-place_reached s w k = twin s.twice (8 * word_in s w + byte_of s k)
+place_reached s w k = twin (both s.part) (8 * word_in s w + byte_of s k)
 
 unfoldable pub word_reached : Span → ℕ → List ℕ
 word_reached s w = concat (tab (places_of s w) (place_reached s w))
 
 -- the eight bytes of the word that is w words on in one number, with those of the word that it stands for
-unfoldable pub eight_in : List ℕ → Span → ℕ → ℕ
-eight_in m s w =
-    cond s.twice (bit_or (eight_bytes m (8 * word_in s w)) (eight_bytes m (8 * word_in s w + palette_base)))
-    (eight_bytes m (8 * word_in s w))
+abbrev pub eight_in : List ℕ → Span → ℕ → ℕ
+eight_in m s w = word_eight (both s.part) m (word_in s w)
 
--- a number whose halves of h bits change places on odd rows
-abbrev pub in_halves : ℕ → Bool → ℕ → ℕ
-in_halves h odd n = cond odd (bit_or (n * 2 ^ h % 2 ^ (2 * h)) (n / 2 ^ h)) n
+-- the words of a span below n have nothing
+abbrev pub BlankWords : List ℕ → Span → ℕ → Type 0
+BlankWords m s n = (w : ℕ) → w < n → eight_in m s w ≡ 0
 
--- a span has the bank's bytes at most, and addresses that stand for others are in the lower half
-pub record Bounds (s : Span) : Type 0 where
-  pub bytes : s.bytes ≤ bank_size
-  pub twice : s.twice ≡ true → s.low ≡ true
-
--- addresses wrap at the palette; each stands for one in the upper half as well
-abbrev pub low_half : Tile → ℕ → Bool
-low_half t mode = tlut mode || is_rgba32 t.fmt t.siz
-
-abbrev pub both_halves : Tile → ℕ → Bool
-both_halves t mode = ltb mode 2 && is_rgba32 t.fmt t.siz
+-- the part of a tile
+abbrev pub part_of : Tile → ℕ → Part
+part_of t mode = cond (tlut mode) Lower (cond (is_rgba32 t.fmt t.siz) Both Whole)
 
 -- row y of a tile as a span
 abbrev pub row_span : Tile → ℕ → ℕ → Span
@@ -90,8 +97,7 @@ row_span t mode y =
       bytes = row_bytes t;
       odd = odd y;
       sparse = tlut mode && leb 2 t.siz;
-      low = low_half t mode;
-      twice = both_halves t mode;
+      part = part_of t mode;
     }
 
 -- what a row's word has in the bytes that the row reaches: row k from an even one on whose word is `from` words on from row 0's

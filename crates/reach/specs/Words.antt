@@ -47,3 +47,8 @@ word_joined twice map w bits = cond twice (joined (joined map w bits) (w + low_w
 
 unfoldable pub word_meets : Bool → List ℕ → ℕ → ℕ → Bool
 word_meets twice map w bits = cond twice (meets map w bits || meets map (w + low_words) bits) (meets map w bits)
+
+-- the eight bytes of a word in one number, with those of the word that it stands for
+unfoldable pub word_eight : Bool → List ℕ → ℕ → ℕ
+word_eight twice m w =
+    cond twice (bit_or (eight_bytes m (8 * w)) (eight_bytes m (8 * w + palette_base))) (eight_bytes m (8 * w))

@@ -1,28 +1,14 @@
 // How far a tile reaches: the bytes of a row, and the rows before its addresses repeat.
-ghost use Rattle.std.specs.Prelude.{◌≡◌, ◌≤◌, min, max};
+ghost use Rattle.std.specs.Prelude.{◌≡◌, ◌≤◌};
 ghost use Rattle.rules.specs.Reach.{extent, sized_bytes, row_bytes, row_period, reach_rows};
 ghost use Rattle.rdp.specs.View.{tile_of};
-ghost use Rattle.rules.specs.Tile.{InRange};
+ghost use Rattle.rules.specs.Tile.{bank_size};
 
-use rdp::tile::TileDescriptor;
+use crate::tile::TileInMode;
 use tmem::bank::Bank;
 
 // The bits of an address of the bank: its size is 2 to this.
 const ADDRESS_BITS: usize = 12;
-
-// The smaller of two numbers.
-pub(crate) fn lesser(a: usize, b: usize) -> usize
-    ensures { result ≡ min a b }
-{
-    if a < b { a } else { b }
-}
-
-// The larger.
-fn greater(a: usize, b: usize) -> usize
-    ensures { result ≡ max a b }
-{
-    if a < b { b } else { a }
-}
 
 // An axis that repeats reaches one period, any other its size, and 1 at least.
 fn axis_extent(cm: u32, mask: u32, size: u32) -> usize
@@ -32,7 +18,7 @@ fn axis_extent(cm: u32, mask: u32, size: u32) -> usize
     if (mask != 0) & (cm & 2 == 0) {
         1usize << mask
     } else {
-        greater(size as usize, 1)
+        (size as usize).max(1)
     }
 }
 
@@ -41,43 +27,36 @@ fn sized_bytes(siz: u32, w: usize) -> usize
     requires { w ≤ 32768 }
     ensures { result ≡ sized_bytes siz w }
 {
-    if siz == 0 {
-        (w + 1) / 2
-    } else if siz == 1 {
-        w
-    } else {
-        2 * w
+    match siz {
+        0 => w.div_ceil(2),
+        1 => w,
+        _ => 2 * w,
     }
 }
 
 // The bytes of a row, at most the bank's.
-pub(crate) fn row_bytes(tile: TileDescriptor) -> usize
-    requires { InRange (tile_of tile) }
-    ensures { result ≡ row_bytes (tile_of tile) }
+#[tactic(auto, unfolding(rules::specs::Reach::row_bytes))]
+pub(crate) fn row_bytes(asked: TileInMode) -> usize
+    ensures { (result ≡ row_bytes (tile_of asked.tile)) × (result ≤ bank_size) }
 {
-    lesser(
-        sized_bytes(tile.siz, axis_extent(tile.cms, tile.masks, tile.width)),
-        Bank::SIZE,
-    )
+    let tile = asked.tile;
+    sized_bytes(tile.siz, axis_extent(tile.cms, tile.masks, tile.width)).min(Bank::SIZE)
 }
 
 // The rows after which the addresses repeat, the swap of odd rows among them.
-fn row_period(tile: TileDescriptor) -> usize
-    requires { InRange (tile_of tile) }
-    ensures { result ≡ row_period (tile_of tile) }
+fn row_period(asked: TileInMode) -> usize
+    ensures { result ≡ row_period (tile_of asked.tile) }
 {
-    let stride = tile.line.bytes();
-    let zeros = usize::trailing_zeros(stride.0) as usize;
-    greater(2, Bank::SIZE >> lesser(zeros, ADDRESS_BITS))
+    let stride = asked.tile.line.bytes();
+    let zeros = stride.0.trailing_zeros() as usize;
+    usize::max(2, Bank::SIZE >> zeros.min(ADDRESS_BITS))
 }
 
 // The rows that are reached.
-pub(crate) fn reach_rows(tile: TileDescriptor) -> usize
-    requires { InRange (tile_of tile) }
-    ensures { result ≡ reach_rows (tile_of tile) }
+#[tactic(auto, unfolding(rules::specs::Reach::reach_rows))]
+pub(crate) fn reach_rows(asked: TileInMode) -> usize
+    ensures { result ≡ reach_rows (tile_of asked.tile) }
 {
-    lesser(
-        axis_extent(tile.cmt, tile.maskt, tile.height),
-        row_period(tile),
-    )
+    let tile = asked.tile;
+    axis_extent(tile.cmt, tile.maskt, tile.height).min(row_period(asked))
 }

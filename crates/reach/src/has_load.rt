@@ -1,28 +1,27 @@
 // Whether a tile reaches a byte that a load wrote: a search of its reach in order, which stops at the first meeting.
-ghost use Rattle.std.specs.Prelude.{◌≡◌, length};
+ghost use Rattle.std.specs.Prelude.{◌≡◌};
 ghost use Rattle.rules.specs.Base.{any, is_written};
 ghost use Rattle.rules.specs.Calls.{has_load_call};
 ghost use Rattle.rules.specs.Reach.{reach_plain, has_load};
 ghost use Rattle.rdp.specs.View.{tile_of, yes_answered};
-ghost use Rattle.rules.specs.Tile.{written_size, InRange};
-ghost use Rattle.reach.specs.Span.{Bounds, reached};
+ghost use Rattle.reach.specs.Span.{reached};
 
+use crate::refused;
+use crate::row::Rows;
 use crate::span::Span;
-use crate::{extent, refused, word};
-use rdp::answer::YesAnswer;
+use crate::tile::TileInMode;
+use rdp::refusal::Refusal;
 use rdp::tile::TileDescriptor;
 use tile_sampling::sampling::TileSampling;
 use tmem::bank::Bank;
 
-// An address of a span is written.
-fn span_meets(written: &[u8], span: Span) -> bool
-    requires written_len { length written.now ≡ written_size }
-    requires bounds { Bounds span }
+// An address of a span is written. By a loop, as the rows are: a chain reads the whole span from memory at once, which waits for its
+// fields to be stored, and took twice the time.
+fn span_meets(written: &[u8; Bank::WRITTEN_SIZE], span: Span) -> bool
     ensures { result ≡ any (is_written written.now) (reached span) }
 {
-    let words = span.words();
-    for w in 0..words {
-        if word::word_meets(written, span.twice, span.word(w), span.bits(w)) {
+    for w in 0..span.words() {
+        if span.word(w).meets(written, span.bits(w)) {
             return true;
         }
     }
@@ -30,15 +29,12 @@ fn span_meets(written: &[u8], span: Span) -> bool
 }
 
 // One of a row, up to the period of rows.
-fn rows_meet(written: &[u8], tile: TileDescriptor, tlut: u32) -> bool
-    requires written_len { length written.now ≡ written_size }
-    requires in_range { InRange (tile_of tile) }
-    ensures { result ≡ any (is_written written.now) (reach_plain (tile_of tile) tlut) }
+fn rows_meet(written: &[u8; Bank::WRITTEN_SIZE], asked: TileInMode) -> bool
+    ensures { result ≡ any (is_written written.now) (reach_plain (tile_of asked.tile) asked.tlut) }
 {
-    let bytes = extent::row_bytes(tile);
-    let rows = extent::reach_rows(tile);
-    for y in 0..rows {
-        if span_meets(written, Span::of_row(tile, tlut, y, bytes)) {
+    let rows = Rows::of(asked);
+    for y in 0..rows.count() {
+        if span_meets(written, rows.row(y)) {
             return true;
         }
     }
@@ -46,31 +42,20 @@ fn rows_meet(written: &[u8], tile: TileDescriptor, tlut: u32) -> bool
 }
 
 // The reach and the map meet.
-fn reach_meets(written: &[u8], tile: TileDescriptor, tlut: u32) -> bool
-    requires written_len { length written.now ≡ written_size }
-    requires in_range { InRange (tile_of tile) }
-    ensures { result ≡ has_load (tile_of tile) tlut written.now }
+fn reach_meets(written: &[u8; Bank::WRITTEN_SIZE], asked: TileInMode) -> bool
+    ensures { result ≡ has_load (tile_of asked.tile) asked.tlut written.now }
 {
-    let sampling = TileSampling::from_tile(tile, tlut);
+    let sampling = TileSampling::from_tile(asked.tile, asked.tlut);
     if sampling.lookup {
-        return span_meets(written, Span::whole(tile, tlut));
+        return span_meets(written, Span::whole(asked));
     }
-    rows_meet(written, tile, tlut)
+    rows_meet(written, asked)
 }
 
 // Whether a load wrote a byte that the tile reaches, or the refusal.
-pub fn tile_has_load(tile: TileDescriptor, tlut: u32, written: &[u8]) -> YesAnswer
+pub fn tile_has_load(tile: TileDescriptor, tlut: u32, written: &[u8]) -> Result<bool, Refusal>
     ensures { yes_answered result ≡ has_load_call (tile_of tile) tlut written.now }
 {
-    let no = refused::map_refusal(written, Bank::WRITTEN_SIZE, tile, tlut);
-    if no != 0 {
-        return YesAnswer {
-            refusal: no,
-            yes: 0,
-        };
-    }
-    YesAnswer {
-        refusal: 0,
-        yes: reach_meets(written, tile, tlut) as u32,
-    }
+    let asked = refused::check_map(written, Bank::WRITTEN_SIZE, tile, tlut)?;
+    Ok(reach_meets(written.try_into().unwrap(), asked))
 }

@@ -3,13 +3,14 @@
 #![tactic(auto)]
 
 mod extent;
-mod fresh;
 pub mod has_load;
 pub mod lane;
 pub mod reach;
 mod reason;
 mod refused;
 pub mod rejection;
+mod row;
 mod rows;
 mod span;
+mod tile;
 mod word;

@@ -1,34 +1,17 @@
-// The first reason of one word of a span.
-ghost use Rattle.std.specs.Prelude.{true, ◌≡◌, ◌*◌, ◌<◌, ◌≤◌, length};
+// The first reason of one word of a span. A reason is a byte of the map, and 0 is the rules' none.
+ghost use Rattle.std.specs.Prelude.{true, ◌≡◌, ◌*◌, ◌<◌};
 ghost use Rattle.rules.specs.Reach.{or_else, first_reason};
-ghost use Rattle.rules.specs.Tile.{bank_size, bank_words, reasons_size};
-ghost use Rattle.reach.specs.Span.{Bounds, places_of, place_reached, word_reached, eight_in};
+ghost use Rattle.reach.specs.Span.{places_of, place_reached, word_reached};
 
 use crate::span::Span;
-use crate::word;
 use tmem::bank::Bank;
 
-// The eight bytes of the bank's word that is w words on, as one number, with those of the word that it stands for.
-pub(crate) fn eight_of(reasons: &[u8], span: Span, w: usize) -> u64
-    requires reasons_len { length reasons.now ≡ reasons_size }
-    requires bounds { Bounds span × (w ≤ bank_size * bank_words) }
-    ensures { result ≡ eight_in reasons.now span w }
-{
-    let from = 8 * span.word(w);
-    let own = word::eight_bytes(reasons, from);
-    if span.twice {
-        return own | word::eight_bytes(reasons, from + Bank::PALETTE_BASE);
-    }
-    own
-}
-
 // No place of word w has one, nor an address that a place stands for. All bytes are tested at once.
-fn is_clear(reasons: &[u8], span: Span, w: usize) -> bool
-    requires reasons_len { length reasons.now ≡ reasons_size }
-    requires bounds { Bounds span × (8 * w < span.bytes) }
+fn is_clear(reasons: &[u8; Bank::REASONS_SIZE], span: Span, w: usize) -> bool
+    requires { 8 * w < span.bytes }
     ensures { result ≡ true → first_reason reasons.now (word_reached span w) ≡ 0 }
 {
-    span.is_zero(w, eight_of(reasons, span, w))
+    span.is_zero(w, span.word(w).eight(reasons))
 }
 
 // A reason where there is one, else another.
@@ -39,22 +22,21 @@ fn or_else(reason: u8, other: u8) -> u8
 }
 
 // The reason at place k of the word, or where it has none, at the address that the place stands for.
-pub(crate) fn place_reason(reasons: &[u8], span: Span, w: usize, k: usize) -> u8
-    requires reasons_len { length reasons.now ≡ reasons_size }
-    requires bounds { Bounds span × (8 * w < span.bytes) × (k < places_of span w) }
+pub(crate) fn place_reason(reasons: &[u8; Bank::REASONS_SIZE], span: Span, w: usize, k: usize) -> u8
+    requires { (8 * w < span.bytes) × (k < places_of span w) }
     ensures { result ≡ first_reason reasons.now (place_reached span w k) }
 {
-    let at = 8 * span.word(w) + span.byte(k);
-    if span.twice {
+    let word = span.word(w);
+    let at = 8 * word.at + span.byte(k);
+    if word.twice {
         return or_else(reasons[at], reasons[at + Bank::PALETTE_BASE]);
     }
     reasons[at]
 }
 
-// The first reason of the word's places.
-fn each_place(reasons: &[u8], span: Span, w: usize) -> u8
-    requires reasons_len { length reasons.now ≡ reasons_size }
-    requires bounds { Bounds span × (8 * w < span.bytes) }
+// The first reason of the word's places. By a loop, for the reason that rows.rt gives.
+fn each_place(reasons: &[u8; Bank::REASONS_SIZE], span: Span, w: usize) -> u8
+    requires { 8 * w < span.bytes }
     ensures { result ≡ first_reason reasons.now (word_reached span w) }
 {
     let places = span.places(w);
@@ -69,9 +51,8 @@ fn each_place(reasons: &[u8], span: Span, w: usize) -> u8
 
 // The first reason of word w, 0 for none. Most words have none, which their bytes say at once; the others are gone through place by
 // place.
-pub(crate) fn word_reason(reasons: &[u8], span: Span, w: usize) -> u8
-    requires reasons_len { length reasons.now ≡ reasons_size }
-    requires bounds { Bounds span × (8 * w < span.bytes) }
+pub(crate) fn word_reason(reasons: &[u8; Bank::REASONS_SIZE], span: Span, w: usize) -> u8
+    requires { 8 * w < span.bytes }
     ensures { result ≡ first_reason reasons.now (word_reached span w) }
 {
     if is_clear(reasons, span, w) {

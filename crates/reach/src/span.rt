@@ -2,15 +2,15 @@
 ghost use Rattle.std.specs.Prelude.{true, ◌≡◌, ℕ, ◌+◌, ◌*◌, ◌-◌, ◌^◌, ◌<◌, ◌≤◌, min};
 ghost use Rattle.std.specs.Int.Bits.{bit_and};
 ghost use Rattle.rules.specs.Base.{tab};
-ghost use Rattle.rules.specs.Reach.{row_bytes, reach_row, reach_whole, palette_order};
+ghost use Rattle.rules.specs.Reach.{reach_whole, palette_order};
 ghost use Rattle.rules.specs.Sampling.{is_rgba32};
-ghost use Rattle.rules.specs.Tile.{bank_size, bank_words, palette_base, InRange};
+ghost use Rattle.rules.specs.Tile.{bank_words, palette_base};
 ghost use Rattle.rdp.specs.View.{tile_of};
-ghost use Rattle.reach.specs.Words.{low_words};
-ghost use Rattle.reach.specs.Span.{Bounds, words_of, reached, word_count, word_in, places_of, byte_of};
-ghost use Rattle.reach.specs.Span.{row_span, bits_in, in_halves, lanes_in};
+ghost use Rattle.reach.specs.Span.{most_words, lower, both, part_of, words_of, reached, word_count, word_in};
+ghost use Rattle.reach.specs.Span.{places_of, byte_of, bits_in, lanes_in};
 
-use crate::extent;
+use crate::tile::TileInMode;
+use crate::word::Word;
 use rdp::tile::TileDescriptor;
 use rdp::units;
 use rdp::units::WordAddr;
@@ -25,19 +25,6 @@ const EVEN_BITS: u8 = 0x55;
 // Every second byte of eight.
 const EVEN_BYTES: u64 = 0x00ff_00ff_00ff_00ff;
 
-// The bytes from the start of a word on, wrapped at the bank's end, or where it is `low` at the palette. Where it is `sparse`
-// every second one alone is reached, where it is `odd` the halves of a word change places, and where it is `twice` each
-// address stands for one in the upper half as well.
-#[derive(Clone, Copy)]
-pub(crate) struct Span {
-    pub(crate) first: WordAddr,
-    pub(crate) bytes: usize,
-    pub(crate) odd: bool,
-    pub(crate) sparse: bool,
-    pub(crate) low: bool,
-    pub(crate) twice: bool,
-}
-
 // The pair (0,3), whose texels lie in both halves of the bank.
 fn is_rgba32(tile: TileDescriptor) -> bool
     ensures { result ≡ is_rgba32 tile.fmt tile.siz }
@@ -45,23 +32,16 @@ fn is_rgba32(tile: TileDescriptor) -> bool
     (tile.fmt == 0) & (tile.siz == 3)
 }
 
-// The words of the bank, or of its lower half.
-fn bank_words(low: bool) -> usize
-    ensures value { result ≡ words_of low }
-    ensures result_nonzero { (0 < result) × (result ≤ bank_words) }
-{
-    if low {
-        Bank::PALETTE_BASE / 8
-    } else {
-        Bank::SIZE / 8
-    }
-}
-
-// The lowest bits, eight at most.
+// The lowest bits, eight at most. (To be one function with the next it would need a trait with two constants. A shift by the smaller
+// of two numbers was slower: it was made of each word, also of those that have nothing.)
 fn first_bits(count: usize) -> u8
     ensures { result ≡ 2 ^ min count 8 - 1 }
 {
-    if count < 8 { (1u8 << count) - 1 } else { 255 }
+    if count < 8 {
+        (1u8 << count) - 1
+    } else {
+        u8::MAX
+    }
 }
 
 // All bits of the lowest bytes, eight at most.
@@ -71,109 +51,130 @@ fn first_bytes(count: usize) -> u64
     if count < 8 {
         (1u64 << 8 * count) - 1
     } else {
-        0xffff_ffff_ffff_ffff
+        u64::MAX
     }
 }
 
-// On odd rows the halves of a word change places.
-fn in_halves(odd: bool, bits: u8) -> u8
-    ensures { result ≡ in_halves 4 odd bits }
-{
-    if odd { bits << 4 | bits >> 4 } else { bits }
+// Where a span's addresses are: in the whole bank, in the lower half alone, or each in the lower half and standing for one in the upper.
+#[derive(Clone, Copy)]
+pub(crate) enum Part {
+    Whole,
+    Lower,
+    Both,
 }
 
-// The same for the eight bytes of a word.
-fn halves_of_eight(odd: bool, bytes: u64) -> u64
-    ensures { result ≡ in_halves 32 odd bytes }
-{
-    if odd {
-        bytes << 32 | bytes >> 32
-    } else {
-        bytes
-    }
-}
-
-impl Span {
-    // Row y of a tile; bytes is the length of a row.
-    pub(crate) fn of_row(tile: TileDescriptor, tlut: u32, y: usize, bytes: usize) -> Span
-        requires { (y < bank_size) × (bytes ≡ row_bytes (tile_of tile)) }
-        ensures result_value { reached result ≡ reach_row (tile_of tile) tlut y }
-        ensures bounds { Bounds result }
-        ensures value { result ≡ row_span (tile_of tile) tlut y }
+impl Part {
+    // That of a tile.
+    pub(crate) fn of(asked: TileInMode) -> Part
+        ensures { result ≡ part_of (tile_of asked.tile) asked.tlut }
     {
-        let first = tile.tmem_addr.row(tile.line, y as u32);
-        let rgba32 = is_rgba32(tile);
-        Span {
-            first,
-            bytes,
-            odd: y % 2 == 1,
-            sparse: (2 <= tlut) & (2 <= tile.siz),
-            low: (2 <= tlut) | rgba32,
-            twice: (tlut < 2) & rgba32,
+        if 2 <= asked.tlut {
+            return Part::Lower;
+        }
+        if is_rgba32(asked.tile) {
+            Part::Both
+        } else {
+            Part::Whole
         }
     }
 
-    // All that a lookup reaches: every address below the modulus.
-    pub(crate) fn whole(tile: TileDescriptor, tlut: u32) -> Span
-        ensures result_value { reached result ≡ reach_whole (tile_of tile) tlut }
-        ensures bounds { Bounds result }
+    // The words of the bank, or of its lower half.
+    fn words(self) -> usize
+        ensures value { result ≡ words_of (lower self) }
+        ensures result_nonzero { (0 < result) × (result ≤ bank_words) }
     {
-        let rgba32 = is_rgba32(tile);
-        let low = (2 <= tlut) | rgba32;
+        match self {
+            Part::Whole => Bank::SIZE / 8,
+            Part::Lower | Part::Both => Bank::PALETTE_BASE / 8,
+        }
+    }
+
+    // Each address stands for one more.
+    fn is_both(self) -> bool
+        ensures { result ≡ both self }
+    {
+        match self {
+            Part::Whole | Part::Lower => false,
+            Part::Both => true,
+        }
+    }
+}
+
+// The bytes from the start of a word on, wrapped at the end of their part of the bank. Where it is `sparse` every second one alone is
+// reached, and where it is `odd` the halves of a word change places.
+#[derive(Clone, Copy)]
+pub(crate) struct Span {
+    pub(crate) first: WordAddr,
+    pub(crate) bytes: u32,
+    pub(crate) odd: bool,
+    pub(crate) sparse: bool,
+    pub(crate) part: Part,
+}
+
+impl Span {
+    // All that a lookup reaches: every address below the modulus.
+    pub(crate) fn whole(asked: TileInMode) -> Span
+        ensures { reached result ≡ reach_whole (tile_of asked.tile) asked.tlut }
+    {
+        let part = Part::of(asked);
         Span {
             first: WordAddr(0),
-            bytes: 8 * bank_words(low),
+            bytes: 8 * part.words() as u32,
             odd: false,
             sparse: false,
-            low,
-            twice: (tlut < 2) & rgba32,
+            part,
         }
     }
 
     // Bytes of the upper half in their order, from one of its words on.
-    fn upper(word: u32, bytes: usize) -> Span
+    fn upper(word: u32, bytes: u32) -> Span
         requires { 8 * word + bytes ≤ palette_base }
-        ensures result_value { reached result ≡ tab bytes (λ i. palette_base + 8 * word + i) }
-        ensures bounds { Bounds result }
+        ensures { reached result ≡ tab bytes (λ i. palette_base + 8 * word + i) }
     {
         Span {
             first: WordAddr(UPPER + word),
             bytes,
             odd: false,
             sparse: false,
-            low: false,
-            twice: false,
+            part: Part::Whole,
         }
     }
 
     // The palette in its order: the tile's own where an index has four bits, else all that the upper half has.
-    pub(crate) fn palette(tile: TileDescriptor) -> Span
-        requires { InRange (tile_of tile) }
-        ensures by_index { (mode : ℕ) → 2 ≤ mode → reached result ≡ palette_order (tile_of tile) mode }
-        ensures bounds { Bounds result }
+    pub(crate) fn palette(asked: TileInMode) -> Span
+        ensures { (mode : ℕ) → 2 ≤ mode → reached result ≡ palette_order (tile_of asked.tile) mode }
     {
-        if tile.siz == 0 {
-            return Span::upper(16 * tile.palette, 128);
+        if asked.tile.siz == 0 {
+            return Span::upper(16 * asked.tile.palette, 128);
         }
-        Span::upper(0, Bank::SIZE - Bank::PALETTE_BASE)
+        Span::upper(0, (Bank::SIZE - Bank::PALETTE_BASE) as u32)
     }
 
     // How many words it has, the last one whole or not.
     pub(crate) fn words(self) -> usize
-        requires { Bounds self }
-        ensures { result ≡ word_count self }
+        ensures value { result ≡ word_count self }
+        ensures upper_bound { result ≤ most_words }
     {
-        (self.bytes + 7) / 8
+        (self.bytes as usize + 7) / 8
     }
 
-    // Where word w is in the bank.
-    pub(crate) fn word(self, w: usize) -> usize
-        requires bounds { Bounds self }
-        requires w_bound { w ≤ bank_size * bank_words }
-        ensures value { result ≡ word_in self w }
-        ensures upper_bound { (result < bank_words) × (self.twice ≡ true → result < low_words) }
+    // The word that is w words on.
+    pub(crate) fn word(self, w: usize) -> Word
+        requires { w ≤ most_words }
+        ensures { (result.at ≡ word_in self w) × (result.twice ≡ both self.part) }
     {
-        (self.first.0 as usize + w) % bank_words(self.low)
+        Word {
+            at: (self.first.0 as usize + w) % self.part.words(),
+            twice: self.part.is_both(),
+        }
+    }
+
+    // How many bytes it has from word w on.
+    fn rest(self, w: usize) -> usize
+        requires { 8 * w < self.bytes }
+        ensures { result ≡ self.bytes - 8 * w }
+    {
+        self.bytes as usize - 8 * w
     }
 
     // The bits of those of its bytes that are reached.
@@ -181,7 +182,12 @@ impl Span {
         requires { 8 * w < self.bytes }
         ensures { result ≡ bits_in self w }
     {
-        let bits = in_halves(self.odd, first_bits(self.bytes - 8 * w));
+        let first = first_bits(self.rest(w));
+        let bits = if self.odd {
+            first.rotate_left(4)
+        } else {
+            first
+        };
         if self.sparse { bits & EVEN_BITS } else { bits }
     }
 
@@ -190,7 +196,12 @@ impl Span {
         requires { 8 * w < self.bytes }
         ensures { result ≡ lanes_in self w }
     {
-        let bytes = halves_of_eight(self.odd, first_bytes(self.bytes - 8 * w));
+        let first = first_bytes(self.rest(w));
+        let bytes = if self.odd {
+            first.rotate_left(32)
+        } else {
+            first
+        };
         if self.sparse {
             bytes & EVEN_BYTES
         } else {
@@ -214,8 +225,14 @@ impl Span {
         requires { 8 * w < self.bytes }
         ensures { result ≡ places_of self w }
     {
-        let bytes = extent::lesser(self.bytes - 8 * w, 8);
-        if self.sparse { (bytes + 1) / 2 } else { bytes }
+        // Not by `min`: the compiler made it of each word, also of those that have nothing, and the question took a third more time.
+        let rest = self.rest(w);
+        let bytes = if rest < 8 { rest } else { 8 };
+        if self.sparse {
+            bytes.div_ceil(2)
+        } else {
+            bytes
+        }
     }
 
     // Which of its bytes place k is.

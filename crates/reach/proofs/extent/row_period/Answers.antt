@@ -13,4 +13,4 @@ zeros_of l h = agree_below 512 (λ l. min (count_trailing_zeros 64 (8 * l)) 12) 
 
 pub returns : goal.returns
 unfolding row_period
-returns c = rw (c.greater.ensures, c.lesser.ensures, c.bytes-stride.ensures, zeros_of _ c.requires.line)
+returns c = rw (c.max.ensures, c.min.ensures, c.bytes-stride.ensures, zeros_of _ c.args.asked.in_range.line)

@@ -8,13 +8,13 @@ use Rattle.reach.proofs.has_load.reach_meets.Goals as goal
 pub returns-then-sampling : goal.returns-then-sampling
 unfolding has_load
 returns-then-sampling c =
-    let a = c.args in
+    let a = c.args.asked in
     let flag = sym c.from_tile-sampling.ensures.lookup_value ∙ c.if-sampling.true in
-    rw (reach-whole (tile_of a.tile) a.tlut flag, ← c.whole.ensures.result_value) c.span_meets.ensures
+    c.span_meets.ensures ∙ rw (c.whole.ensures, reach-whole (tile_of a.tile) a.tlut flag)
 
 pub returns : goal.returns
 unfolding has_load
 returns c =
-    let a = c.args in
+    let a = c.args.asked in
     let flag = sym c.from_tile-sampling.ensures.lookup_value ∙ c.if-sampling.false in
-    rw (reach-plain (tile_of a.tile) a.tlut flag) c.rows_meet.ensures
+    c.rows_meet.ensures ∙ rw (reach-plain (tile_of a.tile) a.tlut flag)

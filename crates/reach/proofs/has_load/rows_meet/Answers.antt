@@ -5,26 +5,23 @@ use Rattle.rules.specs.Base.{any, is_written}
 use Rattle.rules.specs.Reach.{reach_row, reach_plain}
 use Rattle.rdp.specs.View.{tile_of}
 use Rattle.reach.proofs.Joined.{none_yet, none_more, first_found, any_search}
-use Rattle.reach.proofs.Axes.{rows_le}
 use Rattle.reach.proofs.has_load.rows_meet.Goals.{After-span_meets}
 use Rattle.reach.proofs.has_load.rows_meet.Goals as goal
 
 pub loop-y-init : goal.loop-y-init
 loop-y-init c = none_yet (any_search _) _
 
-pub of_row-requires : goal.of_row-requires
-of_row-requires c = (omega (arith, rows_le (tile_of c.args.tile)), c.row_bytes-bytes.ensures)
-
 -- what the test says, of the rule's row
-found_in : (c : After-span_meets)
-    → c.span_meets.result ≡ any (is_written c.args.written.now) (reach_row (tile_of c.args.tile) c.args.tlut c.loop-y.y)
-found_in c = c.span_meets.ensures ∙ rw c.of_row.ensures.result_value
+found_in : (c : After-span_meets) → let a = c.of-rows.result.asked in
+    c.span_meets.result ≡ any (is_written c.args.written.now) (reach_row (tile_of a.tile) a.tlut c.loop-y.y)
+found_in c = c.span_meets.ensures ∙ rw c.row.ensures.result_value
 
 pub returns-then-span_meets : goal.returns-then-span_meets
 unfolding reach_plain
 returns-then-span_meets c =
     let here = found_in (goal.at.returns-then-span_meets c).After-span_meets in
-    first_found (any_search _) _ c.loop-y.y _ (omega arith) c.loop-y.invariant true (sym c.if-span_meets.true ∙ here) true≢false
+    rw (← c.of-rows.ensures, ← c.count-y-end.ensures.0)
+    (first_found (any_search _) _ c.loop-y.y _ (omega arith) c.loop-y.invariant true (sym c.if-span_meets.true ∙ here) true≢false)
 
 pub loop-y-preserved : goal.loop-y-preserved
 loop-y-preserved c =
@@ -34,5 +31,5 @@ loop-y-preserved c =
 pub returns : goal.returns
 unfolding reach_plain
 returns c =
-    let end : c.loop-y.y ≡ c.reach_rows-rows.result = omega arith in
-    rw (← c.reach_rows-rows.ensures, ← end) (sym c.loop-y.invariant)
+    let end : c.loop-y.y ≡ c.count-y-end.result = omega arith in
+    rw (← c.of-rows.ensures, ← c.count-y-end.ensures.0, ← end) (sym c.loop-y.invariant)

@@ -6,4 +6,4 @@ use Rattle.rdp.specs.View.{tile_of}
 use Rattle.reach.proofs.has_load.rows_meet.Given as goal
 
 abbrev pub invariant-loop-y : goal.invariant-loop-y
-invariant-loop-y l = any (is_written l.written) (concat (tab l.y (reach_row (tile_of l.tile) l.tlut))) ≡ false
+invariant-loop-y l = any (is_written l.written) (concat (tab l.y (reach_row (tile_of l.rows.asked.tile) l.rows.asked.tlut))) ≡ false

@@ -9,7 +9,7 @@ use Rattle.reach.proofs.lane.write_lanes.Goals as goal
 
 pub loop-i-init : goal.loop-i-init
 unfolding tab tab_from
-loop-i-init c = record { map_len = c.requires.map_len; written = refl }
+loop-i-init c = record { map_len = c.told-map; written = refl }
 
 pub loop-i-preserved : goal.loop-i-preserved
 loop-i-preserved c =

@@ -8,10 +8,10 @@ pub returns-then-sampling : goal.returns-then-sampling
 returns-then-sampling c =
     let a = c.args in
     let flag = sym c.from_tile-sampling.ensures.lookup_value ∙ c.if-sampling.true in
-    rw (reach-whole (tile_of a.tile) a.tlut flag, ← c.whole.ensures.result_value) c.span_reason.ensures
+    rw (reach-whole (tile_of a.asked.tile) a.asked.tlut flag, ← c.whole.ensures) c.span_reason.ensures
 
 pub returns : goal.returns
 returns c =
     let a = c.args in
     let flag = sym c.from_tile-sampling.ensures.lookup_value ∙ c.if-sampling.false in
-    rw (reach-plain (tile_of a.tile) a.tlut flag) c.rows_reason.ensures
+    rw (reach-plain (tile_of a.asked.tile) a.asked.tlut flag) c.rows_reason.ensures

@@ -9,4 +9,4 @@ loop-k-init c = search rules
 
 pub loop-k-preserved : goal.loop-k-preserved
 unfolding ors
-loop-k-preserved c = rw (add-one, c.eight_of-all.ensures, c.loop-k.invariant)
+loop-k-preserved c = rw (add-one, c.eight-all.ensures, c.word.ensures.0, c.word.ensures.1, c.loop-k.invariant)

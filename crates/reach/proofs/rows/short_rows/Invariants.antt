@@ -7,4 +7,5 @@ use Rattle.rdp.specs.View.{tile_of}
 use Rattle.reach.proofs.rows.short_rows.Given as goal
 
 abbrev pub invariant-loop-i : goal.invariant-loop-i
-invariant-loop-i l = first_reason l.reasons (concat (tab (min (4 * l.i) l.rows) (reach_row (tile_of l.tile) l.tlut))) ≡ 0
+invariant-loop-i l =
+    first_reason l.reasons (concat (tab (min (4 * l.i) l.count) (reach_row (tile_of l.rows.asked.tile) l.rows.asked.tlut))) ≡ 0

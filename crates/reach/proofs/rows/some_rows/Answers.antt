@@ -3,7 +3,7 @@ use Rattle.std.proofs.Common.{◌≡◌, ◌+◌, ◌-◌, sym, ◌∙◌, arith
 use Rattle.rules.specs.Reach.{reach_row, first_reason}
 use Rattle.rdp.specs.View.{tile_of}
 use Rattle.reach.proofs.Joined.{none_yet, none_more, first_found, reason_search}
-use Rattle.reach.proofs.rows.some_rows.Goals.{After-span_reason-reason}
+use Rattle.reach.proofs.rows.some_rows.Goals.{After-row_reason-reason}
 use Rattle.reach.proofs.rows.some_rows.Goals as goal
 
 pub loop-y-init : goal.loop-y-init
@@ -13,20 +13,21 @@ loop-y-init c =
     rw none (none_yet (reason_search _) _)
 
 -- what is found, of the rule's row
-found_in : (c : After-span_reason-reason) → let a = c.args in
-    c.span_reason-reason.result ≡ first_reason a.reasons.now (reach_row (tile_of a.tile) a.tlut (a.from + (c.loop-y.y - a.from)))
+found_in : (c : After-row_reason-reason) → let a = c.args in
+    c.row_reason-reason.result
+    ≡ first_reason a.reasons.now (reach_row (tile_of a.rows.asked.tile) a.rows.asked.tlut (a.from + (c.loop-y.y - a.from)))
 found_in c =
     let at : c.args.from + (c.loop-y.y - c.args.from) ≡ c.loop-y.y = omega arith in
-    c.span_reason-reason.ensures ∙ rw (c.of_row.ensures.result_value, at)
+    c.row_reason-reason.ensures ∙ rw at
 
 pub returns-then-reason-ne0 : goal.returns-then-reason-ne0
 returns-then-reason-ne0 c =
-    let here = found_in (goal.at.returns-then-reason-ne0 c).After-span_reason-reason in
+    let here = found_in (goal.at.returns-then-reason-ne0 c).After-row_reason-reason in
     first_found (reason_search _) _ (c.loop-y.y - c.args.from) _ (omega arith) c.loop-y.invariant _ here c.if-reason-ne0.true
 
 pub loop-y-preserved : goal.loop-y-preserved
 loop-y-preserved c =
     let f = c.args.from in
-    let here = found_in (goal.at.loop-y-preserved c).After-span_reason-reason in
+    let here = found_in (goal.at.loop-y-preserved c).After-row_reason-reason in
     let more : c.loop-y.y + 1 - f ≡ c.loop-y.y - f + 1 = omega arith in
     rw more (none_more (reason_search _) _ _ c.loop-y.invariant (sym here ∙ c.if-reason-ne0.false))

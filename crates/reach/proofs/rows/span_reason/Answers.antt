@@ -1,11 +1,15 @@
 -- `reach::rows::span_reason` goes from word to word.
 use Rattle.std.proofs.Common.{◌≡◌, sym, ◌∙◌, arith}
-use Rattle.reach.proofs.Joined.{none_yet, none_more, first_found, reason_search}
+use Rattle.reach.proofs.Joined.{none_all, none_more, first_found, reason_search}
+use Rattle.reach.proofs.Asked.{blank_clear}
 use Rattle.reach.proofs.Spans.{reached_words}
 use Rattle.reach.proofs.rows.span_reason.Goals as goal
 
 pub loop-w-init : goal.loop-w-init
-loop-w-init c = none_yet (reason_search _) _
+loop-w-init c =
+    let a = c.args in
+    let b = c.blank_words-blank.ensures in
+    none_all (reason_search _) _ _ (λ w h. blank_clear _ a.span c.fits-reasons w (b.1 w h))
 
 pub returns-then-reason-ne0 : goal.returns-then-reason-ne0
 returns-then-reason-ne0 c =
@@ -17,5 +21,5 @@ loop-w-preserved c = none_more (reason_search _) _ _ c.loop-w.invariant (sym c.w
 
 pub returns : goal.returns
 returns c =
-    let end : c.loop-w.w ≡ c.words-words.result = omega arith in
-    rw (reached_words, ← c.words-words.ensures, ← end) (sym c.loop-w.invariant)
+    let end : c.loop-w.w ≡ c.words-w-end.result = omega arith in
+    rw (reached_words, ← c.words-w-end.ensures.value, ← end) (sym c.loop-w.invariant)

@@ -11,4 +11,4 @@ returns-then-written-i-eq0 c =
 pub returns-else-written-i-eq0 : goal.returns-else-written-i-eq0
 returns-else-written-i-eq0 c =
     let a = c.args in
-    bit_shifted a.k 8 c.requires.at_lt_bank_words.1 ∙ bit_some a.written.now a.at a.k c.if-written-i-eq0.false
+    bit_shifted a.k 8 c.requires.1 ∙ bit_some a.written.now a.at a.k c.if-written-i-eq0.false
