@@ -15,7 +15,8 @@ use Rattle.rules.specs.Texdec.{tlut}
 use Rattle.rules.specs.Picture.{texel, row_start, column, reads_each, plain, plain_row, lookup, lookup_row}
 use Rattle.rules.proofs.Readings.{trail-length}
 use Rattle.decoder.specs.Rows.{scale_of, row_at, row_texel, row_of, rows_of}
-use Rattle.decoder.specs.Asked.{reading_by, texels_by, width_by, rows_by}
+use Rattle.decoder.specs.Asked.{reading_by}
+use Rattle.decoder.specs.Sizes.{texels_by, width_by, rows_by}
 use Rattle.decoder.proofs.Placed.{row_reads}
 
 pub texels_by_lem : (looked : Bool) (t : Tile) → width_by looked t * rows_by looked t ≡ texels_by looked t

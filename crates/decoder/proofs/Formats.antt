@@ -1,19 +1,30 @@
--- The rule's list of formats, by place, and by the reads of its formats.
-use mathlib.Core.Path.{◌≡◌, refl}
-use mathlib.Core.Bool.{Bool, true, false, not, cond, ◌||◌}
+-- The declared formats are the rules' known ones: by the place of a pair in the rule's list, and by the reads of a texel.
+use mathlib.Core.Path.{◌≡◌, refl, sym}
+use mathlib.Core.Bool.{Bool, true, false, not, ◌||◌, true≢false}
 use mathlib.Core.List.{List, [], ◌∷◌}
-use Prim.Native.Nat.{ℕ, ◌+◌, ◌*◌, ◌%◌, ◌<◌, ◌≤◌}
+use Prim.Native.Nat.{ℕ, ◌+◌, ◌*◌, ◌<◌, ◌≤◌}
 use native.Mathlib.Omega.{arith}
-use native.Mathlib.Decide.{dec_lt, ℕ_discrete}
-use lib.Dec.{T, eqb, ltb}
-use lib.ListN.{get_or-eq_default}
-use borrow.Author.Tests.{le-leb, lt-leb, le-ltb, ne_eqb, eq-eqb}
+use native.Mathlib.Decide.{dec_lt}
+use lib.Dec.{T}
+use lib.ListN.{get_or, get_or-eq_default}
+use borrow.Author.Tests.{le-leb, lt-leb, ne_eqb}
 use Rattle.rules.specs.Base.{mem}
-use Rattle.rules.specs.Tile.{Tile, InRange}
-use Rattle.rules.specs.Texdec.{Format, rgba16, rgba32, ci4, ci8, ci16, ia4, ia8, ia16, i4, i8, unknown, formats, format_of}
-use Rattle.rules.specs.Picture.{direct, format_reads}
+use Rattle.rules.specs.Reading.{ask, give}
+use Rattle.rules.specs.Texdec as rules
+use Rattle.rules.specs.Texdec.{rgba16, rgba32, ci4, ci8, ci16, ia4, ia8, ia16, i4, i8, unknown}
+use Rattle.rules.specs.Texdec.{formats, format_of, known, accepted}
+use Rattle.rules.specs.Picture.{direct, format_reads, address}
+use Rattle.rules.specs.Linear.{linear_texel}
 use Rattle.rules.proofs.Computed.{all, computed}
-use Rattle.decoder.specs.Steps.{format_at, kind_of}
+use Rattle.rules.proofs.Formats.{accepted-known}
+use Rattle.decoder.specs.declared.format.Format.{Format}
+use Rattle.decoder.specs.declared.format.Format.TheVariants.{Rgba16, Rgba32, Ci4, Ci8, Ci16, Ia4, Ia8, Ia16, I4, I8}
+use Rattle.decoder.specs.Formats.{rule_of, halved, of_byte, of_pair}
+use Rattle.decoder.specs.Linear.{byte_of}
+
+-- the format at a place of the rule's list, which has four sizes for each format
+abbrev pub format_at : ℕ → rules.Format
+format_at place = get_or formats place unknown
 
 -- a pair's format stands at 4 times its format and its size
 pub placed : (fmt siz : ℕ) → siz ≤ 3 → format_of fmt siz ≡ format_at (4 * fmt + siz)
@@ -21,7 +32,7 @@ unfolding format_of
 placed fmt siz h = rw (le-leb siz 3 h)
 
 -- what passes at each place of the list but some, and of an unknown format, passes at every other place
-outside : (l : List ℕ) (p : Format → Bool) → T (all 18 (λ k. mem k l || p (format_at k))) → T (p unknown)
+outside : (l : List ℕ) (p : rules.Format → Bool) → T (all 18 (λ k. mem k l || p (format_at k))) → T (p unknown)
     → (n : ℕ) → mem n l ≡ false → T (p (format_at n))
 outside l p t u n e = go (dec_lt n 18)
   where
@@ -32,91 +43,159 @@ outside l p t u n e = go (dec_lt n 18)
 abbrev pub Not : ℕ → ℕ → Type 0
 Not n k = n ≡ k → ⊥
 
--- the places of the formats of so many reads are those of a list
-elsewhere : (reads : ℕ) (l : List ℕ) → T (all 18 (λ k. mem k l || not (eqb (format_reads (format_at k)) reads))) → T (not (eqb 0 reads))
-    → (n : ℕ) → format_reads (format_at n) ≡ reads → mem n l ≡ false → ⊥
-elsewhere reads l t u n e m = rw (eq-eqb _ _ e) at (outside l (λ f. not (eqb (format_reads f) reads)) t u n m)
+abbrev pub is_i8 : rules.Format → Bool
+is_i8 rgba16 = false
+is_i8 rgba32 = false
+is_i8 ci4 = false
+is_i8 ci8 = false
+is_i8 ci16 = false
+is_i8 ia4 = false
+is_i8 ia8 = false
+is_i8 ia16 = false
+is_i8 i4 = false
+is_i8 i8 = true
+is_i8 unknown = false
 
--- of two reads are RGBA16, IA16 and, at two places, the index of 16 bits
-pub two_else : (n : ℕ) → format_reads (format_at n) ≡ 2 → Not n 2 → Not n 14 → format_at n ≡ ci16
+only_i8 : (f : rules.Format) → known f ≡ true → T (not (known f) || is_i8 f) → f ≡ i8
+only_i8 rgba16 k t = absurd t
+only_i8 rgba32 k t = absurd t
+only_i8 ci4 k t = absurd t
+only_i8 ci8 k t = absurd t
+only_i8 ci16 k t = absurd t
+only_i8 ia4 k t = absurd t
+only_i8 ia8 k t = absurd t
+only_i8 ia16 k t = absurd t
+only_i8 i4 k t = absurd t
+only_i8 i8 k t = refl
+only_i8 unknown k t = absurd (true≢false (sym k))
+
+-- beside ten places only I8 has a known format
+pub last : (n : ℕ) → known (format_at n) ≡ true → Not n 2 → Not n 3 → Not n 8 → Not n 9 → Not n 10 → Not n 11 → Not n 12 → Not n 13
+    → Not n 14 → Not n 16 → format_at n ≡ i8
 unfolding mem
-two_else n e a b = go (ℕ_discrete n 10) (ℕ_discrete n 11)
-  where
-    go : Dec (n ≡ 10) → Dec (n ≡ 11) → format_at n ≡ ci16
-    go (yes c) d = rw c
-    go (no c) (yes d) = rw d
-    go (no c) (no d) =
-        absurd
-        (elsewhere 2 (2 ∷ 10 ∷ 11 ∷ 14 ∷ []) tt tt n e (simp (ne_eqb n 2 a, ne_eqb n 10 c, ne_eqb n 11 d, ne_eqb n 14 b)))
+last n k a b c d e f g h i j =
+    only_i8 (format_at n) k
+    (outside (2 ∷ 3 ∷ 8 ∷ 9 ∷ 10 ∷ 11 ∷ 12 ∷ 13 ∷ 14 ∷ 16 ∷ []) (λ f. not (known f) || is_i8 f) tt tt n
+    (simp (
+      ne_eqb n 2 a,
+      ne_eqb n 3 b,
+      ne_eqb n 8 c,
+      ne_eqb n 9 d,
+      ne_eqb n 10 e,
+      ne_eqb n 11 f,
+      ne_eqb n 12 g,
+      ne_eqb n 13 h,
+      ne_eqb n 14 i,
+      ne_eqb n 16 j,
+    )))
 
--- of one read are those of four bits, IA8, and two more
-pub one-rest : (P : ℕ → Type 0) → P 9 → P 17 → (n : ℕ) → format_reads (format_at n) ≡ 1 → Not n 8 → Not n 12 → Not n 13 → Not n 16 → P n
-unfolding mem
-one-rest P u v n e a b c d = go (ℕ_discrete n 9) (ℕ_discrete n 17)
-  where
-    go : Dec (n ≡ 9) → Dec (n ≡ 17) → P n
-    go (yes p) q = rw p u
-    go (no p) (yes q) = rw q v
-    go (no p) (no q) =
-        absurd
-        (elsewhere 1 (8 ∷ 9 ∷ 12 ∷ 13 ∷ 16 ∷ 17 ∷ []) tt tt n e
-        (simp (ne_eqb n 8 a, ne_eqb n 9 p, ne_eqb n 12 b, ne_eqb n 13 c, ne_eqb n 16 d, ne_eqb n 17 q)))
+-- without a lookup table an accepted pair has a known format
+pub direct-known : (mode fmt siz : ℕ) → mode < 2 → accepted mode fmt siz ≡ true → known (format_of fmt siz) ≡ true
+direct-known mode fmt siz h a = rw (lt-leb 2 mode h) at (accepted-known mode fmt siz a)
 
--- those give the byte itself, which is one rule
-pub one_else : (base palette : ℕ) (odd : Bool) (rel x n : ℕ) → format_reads (format_at n) ≡ 1
-    → Not n 8 → Not n 12 → Not n 13 → Not n 16 → direct (format_at n) base palette odd rel x ≡ direct i8 base palette odd rel x
-unfolding direct
-one_else base palette odd rel x n e a b c d =
-    one-rest (λ n. direct (format_at n) base palette odd rel x ≡ direct i8 base palette odd rel x) refl refl n e a b c d
+pub rule_known : (f : Format) → known (rule_of f) ≡ true
+rule_known Rgba16 = refl
+rule_known Rgba32 = refl
+rule_known Ci4 = refl
+rule_known Ci8 = refl
+rule_known Ci16 = refl
+rule_known Ia4 = refl
+rule_known Ia8 = refl
+rule_known Ia16 = refl
+rule_known I4 = refl
+rule_known I8 = refl
 
--- RGBA32 alone has four
-pub four_reads : (f : Format) → format_reads f ≡ 4 → f ≡ rgba32
-four_reads rgba16 e = absurd (omega arith)
-four_reads rgba32 e = refl
-four_reads ci4 e = absurd (omega arith)
-four_reads ci8 e = absurd (omega arith)
-four_reads ci16 e = absurd (omega arith)
-four_reads ia4 e = absurd (omega arith)
-four_reads ia8 e = absurd (omega arith)
-four_reads ia16 e = absurd (omega arith)
-four_reads i4 e = absurd (omega arith)
-four_reads i8 e = absurd (omega arith)
-four_reads unknown e = absurd (omega arith)
+-- RGBA32 alone has neither one read nor two
+pub only_rgba32 : (f : Format) → Not (format_reads (rule_of f)) 1 → Not (format_reads (rule_of f)) 2 → rgba32 ≡ rule_of f
+only_rgba32 Rgba16 a b = absurd (b refl)
+only_rgba32 Rgba32 a b = refl
+only_rgba32 Ci4 a b = absurd (a refl)
+only_rgba32 Ci8 a b = absurd (a refl)
+only_rgba32 Ci16 a b = absurd (b refl)
+only_rgba32 Ia4 a b = absurd (a refl)
+only_rgba32 Ia8 a b = absurd (a refl)
+only_rgba32 Ia16 a b = absurd (b refl)
+only_rgba32 I4 a b = absurd (a refl)
+only_rgba32 I8 a b = absurd (a refl)
 
--- a format of no other count is unknown
-pub no_reads : (f : Format) → Not (format_reads f) 1 → Not (format_reads f) 2 → Not (format_reads f) 4 → f ≡ unknown
-no_reads rgba16 a b c = absurd (b refl)
-no_reads rgba32 a b c = absurd (c refl)
-no_reads ci4 a b c = absurd (a refl)
-no_reads ci8 a b c = absurd (a refl)
-no_reads ci16 a b c = absurd (b refl)
-no_reads ia4 a b c = absurd (a refl)
-no_reads ia8 a b c = absurd (a refl)
-no_reads ia16 a b c = absurd (b refl)
-no_reads i4 a b c = absurd (a refl)
-no_reads i8 a b c = absurd (a refl)
-no_reads unknown a b c = refl
+-- A texel of one read is made of its byte, and one of two of its bytes.
+module _ (palette x : ℕ) where
+  module _ (base : ℕ) (odd : Bool) (rel : ℕ) where
+    pub direct_one : (f : Format) → format_reads (rule_of f) ≡ 1
+        → direct (rule_of f) base palette odd rel x ≡ ask (address 4096 base odd rel) (λ v. give (of_byte (rule_of f) palette x v))
+    unfolding direct
+    direct_one Rgba16 e = absurd (omega arith)
+    direct_one Rgba32 e = absurd (omega arith)
+    direct_one Ci4 e = refl
+    direct_one Ci8 e = refl
+    direct_one Ci16 e = absurd (omega arith)
+    direct_one Ia4 e = refl
+    direct_one Ia8 e = refl
+    direct_one Ia16 e = absurd (omega arith)
+    direct_one I4 e = refl
+    direct_one I8 e = refl
 
--- one of size 0 has no more than one
-pub wide_place : (n : ℕ) → 2 ≤ format_reads (format_at n) → eqb (n % 4) 0 ≡ false
-wide_place n h = go (dec_lt n 18)
-  where
-    either : (b c : Bool) → T (not b || c) → c ≡ false → b ≡ false
-    either false c t e = refl
-    either true c t e = absurd (rw e at t)
+    pub direct_two : (f : Format) → format_reads (rule_of f) ≡ 2
+        → direct (rule_of f) base palette odd rel x
+        ≡ ask (address 4096 base odd rel) (λ hi. ask (address 4096 base odd (rel + 1)) (λ lo. give (of_pair (rule_of f) hi lo)))
+    unfolding direct
+    direct_two Rgba16 e = refl
+    direct_two Rgba32 e = absurd (omega arith)
+    direct_two Ci4 e = absurd (omega arith)
+    direct_two Ci8 e = absurd (omega arith)
+    direct_two Ci16 e = refl
+    direct_two Ia4 e = absurd (omega arith)
+    direct_two Ia8 e = absurd (omega arith)
+    direct_two Ia16 e = refl
+    direct_two I4 e = absurd (omega arith)
+    direct_two I8 e = absurd (omega arith)
 
-    go : Dec (n < 18) → eqb (n % 4) 0 ≡ false
-    go (yes q) =
-        either (eqb (n % 4) 0) (ltb (format_reads (format_at n)) 2)
-        (computed 18 (λ k. not (eqb (k % 4) 0) || ltb (format_reads (format_at k)) 2) tt n q)
-        (le-ltb (format_reads (format_at n)) 2 h)
-    go (no q) =
-        let past : 18 ≤ n = omega arith in
-        let few : 2 ≤ 0 = rw (get_or-eq_default formats unknown past) at h in
-        absurd (omega arith)
+  module _ (p : ℕ) where
+    pub linear_one : (f : Format) → format_reads (rule_of f) ≡ 1
+        → linear_texel (rule_of f) palette p x ≡ ask (p + byte_of (rule_of f) x) (λ v. give (of_byte (rule_of f) palette x v))
+    unfolding linear_texel
+    linear_one Rgba16 e = absurd (omega arith)
+    linear_one Rgba32 e = absurd (omega arith)
+    linear_one Ci4 e = refl
+    linear_one Ci8 e = refl
+    linear_one Ci16 e = absurd (omega arith)
+    linear_one Ia4 e = refl
+    linear_one Ia8 e = refl
+    linear_one Ia16 e = absurd (omega arith)
+    linear_one I4 e = refl
+    linear_one I8 e = refl
+
+    pub linear_two : (f : Format) → format_reads (rule_of f) ≡ 2
+        → linear_texel (rule_of f) palette p x
+        ≡ ask (p + 2 * x) (λ hi. ask (p + 2 * x + 1) (λ lo. give (of_pair (rule_of f) hi lo)))
+    unfolding linear_texel
+    linear_two Rgba16 e = refl
+    linear_two Rgba32 e = absurd (omega arith)
+    linear_two Ci4 e = absurd (omega arith)
+    linear_two Ci8 e = absurd (omega arith)
+    linear_two Ci16 e = refl
+    linear_two Ia4 e = absurd (omega arith)
+    linear_two Ia8 e = absurd (omega arith)
+    linear_two Ia16 e = refl
+    linear_two I4 e = absurd (omega arith)
+    linear_two I8 e = absurd (omega arith)
+
+-- one of more reads than one shares no byte
+pub wide : (f : rules.Format) → 2 ≤ format_reads f → halved f ≡ false
+wide rgba16 h = refl
+wide rgba32 h = refl
+wide ci4 h = absurd (omega arith)
+wide ci8 h = refl
+wide ci16 h = refl
+wide ia4 h = absurd (omega arith)
+wide ia8 h = refl
+wide ia16 h = refl
+wide i4 h = absurd (omega arith)
+wide i8 h = refl
+wide unknown h = refl
 
 -- no format has more than four
-pub format_few : (f : Format) → format_reads f ≤ 4
+pub format_few : (f : rules.Format) → format_reads f ≤ 4
 format_few rgba16 = omega arith
 format_few rgba32 = omega arith
 format_few ci4 = omega arith
@@ -128,44 +207,3 @@ format_few ia16 = omega arith
 format_few i4 = omega arith
 format_few i8 = omega arith
 format_few unknown = omega arith
-
--- the numbers from 32 on are the kinds of the modes with a lookup table
-module _ (t : Tile) (mode kind : ℕ) (k : kind ≡ kind_of t mode) where
-  pub kind_table : InRange t → 32 ≤ kind → 2 ≤ mode
-  kind_table i h = go (dec_lt mode 2)
-    where
-      go : Dec (mode < 2) → 2 ≤ mode
-      go (yes p) = let e = rw (lt-leb 2 mode p) at k in absurd (omega (arith, e, i.fmt, i.siz))
-      go (no p) = omega arith
-
-  pub kind_place : kind < 32 → mode < 2
-  kind_place h = go (dec_lt mode 2)
-    where
-      part : (s f : Bool) → kind ≡ cond s (cond f 34 33) 32 → mode < 2
-      part true true e = absurd (omega arith)
-      part true false e = absurd (omega arith)
-      part false f e = absurd (omega arith)
-
-      go : Dec (mode < 2) → mode < 2
-      go (yes p) = p
-      go (no p) = let q : 2 ≤ mode = omega arith in part (eqb t.siz 0) (eqb t.fmt 1) (rw (le-leb 2 mode q) at k)
-
-  pub kind_entry : 2 ≤ mode → 32 ≤ kind
-  kind_entry m = part (eqb t.siz 0) (eqb t.fmt 1) (rw (le-leb 2 mode m) at k)
-    where
-      part : (s f : Bool) → kind ≡ cond s (cond f 34 33) 32 → 32 ≤ kind
-      part true true e = omega arith
-      part true false e = omega arith
-      part false f e = omega arith
-
-  pub kind_below : InRange t → kind < 64
-  kind_below i = go (dec_lt mode 2)
-    where
-      part : (s f : Bool) → kind ≡ cond s (cond f 34 33) 32 → kind < 64
-      part true true e = omega arith
-      part true false e = omega arith
-      part false f e = omega arith
-
-      go : Dec (mode < 2) → kind < 64
-      go (yes p) = let e = rw (lt-leb 2 mode p) at k in omega (arith, e, i.fmt, i.siz)
-      go (no p) = let q : 2 ≤ mode = omega arith in part (eqb t.siz 0) (eqb t.fmt 1) (rw (le-leb 2 mode q) at k)

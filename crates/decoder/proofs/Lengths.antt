@@ -1,4 +1,4 @@
--- Every texel makes the reads of its pair; four bytes put to the front are the channels.
+-- Every texel makes the reads of its pair; the four first of a list.
 use mathlib.Core.Path.{◌≡◌, refl, ap}
 use mathlib.Core.Bool.{Bool, true, false, cond, not, ◌||◌}
 use mathlib.Core.List.{List, [], ◌∷◌}
@@ -14,7 +14,8 @@ use Rattle.rules.specs.Texdec.{Format, rgba16, rgba32, ci4, ci8, ci16, ia4, ia8,
 use Rattle.rules.specs.Texdec.{known, tlut, step_knows}
 use Rattle.rules.specs.Picture.{direct, paletted, texel, format_reads, reads_each}
 use Rattle.rules.proofs.Formats.{texel-tlut, texel-direct}
-use Rattle.decoder.specs.Rows.{four, trail_step}
+use Rattle.decoder.specs.Rows.{four}
+use Rattle.decoder.specs.Sizes.{trail_step}
 use Rattle.decoder.proofs.Formats.{format_few}
 
 module _ (base palette : ℕ) (odd : Bool) (rel x : ℕ) (bank : List ℕ) where

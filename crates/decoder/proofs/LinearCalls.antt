@@ -1,8 +1,8 @@
 -- What holds of inputs of the linear decoding that are not refused, and what the call then answers and leaves.
-use mathlib.Core.Path.{◌≡◌, refl}
+use mathlib.Core.Path.{◌≡◌, refl, sym}
 use mathlib.Core.Bool.{true, false, ◌||◌}
 use mathlib.Core.List.{List, [], ◌∷◌}
-use Prim.Native.Nat.{ℕ, ◌+◌, ◌*◌, ◌≤◌}
+use Prim.Native.Nat.{ℕ, ◌*◌, ◌≤◌}
 use native.Mathlib.Nat.{mul_assoc}
 use native.Mathlib.Omega.{arith}
 use lib.Dec.{ltb}
@@ -11,17 +11,20 @@ use borrow.Author.Tests.{ltb-false, not-false}
 use Rattle.rules.specs.Base.{over}
 use Rattle.rules.specs.Reading.{given}
 use Rattle.rules.specs.Tile.{Tile, side_limit, sides_outside, linear_fields_outside}
-use Rattle.rules.specs.Texdec.{known, accepted}
+use Rattle.rules.specs.Texdec.{Format, format_of, known, accepted}
 use Rattle.rules.specs.Linear.{linear, linear_row}
 use Rattle.rules.specs.Picture.{format_reads}
 use Rattle.rules.specs.Refusal.{first}
 use Rattle.rules.specs.Calls.{linear_tests, linear_call}
 use Rattle.rules.proofs.Ranges.{neither, both}
-use Rattle.rules.proofs.Refused.{Passed, numbered, passed, refused_is, done_is}
+use Rattle.rules.proofs.Refused.{Passed, numbered, passed, done_is}
 use Rattle.rules.proofs.Formats.{accepted-known}
-use Rattle.decoder.specs.Steps.{format_at}
+use Rattle.std.specs.Prelude.{Result, IsErrAnd}
+use Rattle.rdp.specs.Refused.{number_of}
+use Rattle.rdp.specs.View.{answered}
+use Rattle.rdp.specs.declared.refusal.Refusal.{Refusal}
+use Rattle.rdp.proofs.Refusals.{refused_call}
 use Rattle.decoder.specs.Linear.{linear_rows}
-use Rattle.decoder.proofs.Formats.{placed}
 use Rattle.decoder.proofs.Sources.{rows_reads}
 
 -- the fields are inside their ranges; of the sides, as far as sums of them go
@@ -50,7 +53,7 @@ sides t h =
 pub record Taken (t : Tile) (stride : ℕ) (out : List ℕ) : Type 0 where
   pub sides : Sides t
   pub stride_in : stride ≤ 65535
-  pub knows : known (format_at (4 * t.fmt + t.siz)) ≡ true
+  pub knows : known (format_of t.fmt t.siz) ≡ true
   pub room : 4 * t.width * t.height ≤ length out
 
 module _ (src : List ℕ) (t : Tile) (stride : ℕ) (out : List ℕ) where
@@ -65,25 +68,24 @@ module _ (src : List ℕ) (t : Tile) (stride : ℕ) (out : List ℕ) where
       record {
         sides = s;
         stride_in = ltb-false 65535 stride far.1;
-        knows = rw (← placed t.fmt t.siz s.siz) (accepted-known 0 t.fmt t.siz pair.0);
+        knows = accepted-known 0 t.fmt t.siz pair.0;
         room = rw (mul_assoc 4 t.width t.height) fits;
       }
 
-  -- the rows of the format at the pair's place are the rule's
-  rows_are : t.siz ≤ 3 → linear_rows (4 * t.fmt + t.siz) t.palette stride t.width t.height ≡ linear t stride
+  -- the rows of the pair's format are the rule's
+  rows_are : linear_rows (format_of t.fmt t.siz) t.palette stride t.width t.height ≡ linear t stride
   unfolding linear linear_row
-  rows_are h = rw (← placed t.fmt t.siz h)
+  rows_are = refl
 
-  pub linear-refused : (n : ℕ) → n ≡ first (linear_tests src t stride out) → (n ≡ 0 → ⊥)
-      → record { refusal = n; numbers = 0 ∷ []; buffers = out ∷ [] } ≡ linear_call src t stride out
+  pub linear-refused : (r : Result ℕ Refusal) (e : Refusal) → IsErrAnd r (λ f. f ≡ e) → number_of e ≡ first (linear_tests src t stride out)
+      → answered r (out ∷ []) ≡ linear_call src t stride out
   unfolding linear_call
-  linear-refused n e h = refused_is _ _ _ _ n e h
+  linear-refused r e h p = refused_call (λ n. n ∷ []) r e _ (_ ∷ []) _ (out ∷ []) h p
 
-  pub linear_done : (count : ℕ) (picture : List ℕ) → first (linear_tests src t stride out) ≡ 0
-      → count ≡ format_reads (format_at (4 * t.fmt + t.siz)) * (t.width * t.height)
-      → picture ≡ over (given (linear_rows (4 * t.fmt + t.siz) t.palette stride t.width t.height) src) out
+  pub linear_done : (f : Format) (count : ℕ) (picture : List ℕ) → 0 ≡ first (linear_tests src t stride out)
+      → f ≡ format_of t.fmt t.siz → count ≡ format_reads f * (t.width * t.height)
+      → picture ≡ over (given (linear_rows f t.palette stride t.width t.height) src) out
       → record { refusal = 0; numbers = count ∷ []; buffers = picture ∷ [] } ≡ linear_call src t stride out
   unfolding linear_call
-  linear_done count picture z n p =
-      rw (n, ← rows_reads (4 * t.fmt + t.siz) t.palette stride t.width src t.height, p, rows_are (taken z).sides.siz)
-      (done_is _ _ _ _ z)
+  linear_done f count picture z e n p =
+      rw (n, ← rows_reads f t.palette stride t.width src t.height, p, e, rows_are) (done_is _ _ _ _ (sym z))

@@ -10,11 +10,15 @@ use Rattle.rules.specs.Tile.{Tile}
 use Rattle.rules.specs.Picture.{reads_each}
 use Rattle.rules.specs.Refusal.{Outcome, first, settle, call}
 use Rattle.rules.specs.Calls.{picture_call, observed_call}
-use Rattle.rules.proofs.Refused.{refused_is, done_is}
+use Rattle.rules.proofs.Refused.{done_is}
+use Rattle.rdp.proofs.Refusals.{refused_call}
 use Rattle.decoder.specs.Rows.{rows_of, told}
-use Rattle.decoder.specs.Asked.{reading_by, texels_by, width_by, rows_by, tests_by, untold_call, outcome_by}
+use Rattle.decoder.specs.Asked.{reading_by, tests_by, untold_call, outcome_by}
+use Rattle.decoder.specs.Sizes.{texels_by, width_by, rows_by}
 use Rattle.rdp.specs.View.{answered}
-use Rattle.rdp.specs.declared.answer.Answer.{Answer}
+use Rattle.rdp.specs.Refused.{number_of}
+use Rattle.rdp.specs.declared.refusal.Refusal.{Refusal}
+use Rattle.std.specs.Prelude.{Result, Ok, Err, IsErrAnd}
 use Rattle.decoder.proofs.Counted.{reading_by_lem, reads_count}
 
 -- an outcome with its first buffer alone
@@ -28,11 +32,12 @@ settled_alone zero numbers instead a b c d = refl
 settled_alone (suc n) numbers instead a b c d = refl
 
 module _ (looked : Bool) (bank : List ℕ) (t : Tile) (mode lane : ℕ) (out seen : List ℕ) where
-  pub refused : (observe : Bool) (n : ℕ) → n ≡ first (tests_by observe looked bank t mode lane out seen) → (n ≡ 0 → ⊥)
-      → record { refusal = n; numbers = 0 ∷ []; buffers = out ∷ seen ∷ [] } ≡ outcome_by observe looked bank t mode lane out seen
+  pub refused : (observe : Bool) (r : Result ℕ Refusal) (e : Refusal) → IsErrAnd r (λ f. f ≡ e)
+      → number_of e ≡ first (tests_by observe looked bank t mode lane out seen)
+      → answered r (out ∷ seen ∷ []) ≡ outcome_by observe looked bank t mode lane out seen
   unfolding untold_call observed_call
-  refused true n e h = refused_is _ _ _ _ n e h
-  refused false n e h = refused_is _ _ _ _ n e h
+  refused true r e h p = refused_call (λ n. n ∷ []) r e _ (_ ∷ []) _ (out ∷ seen ∷ []) h p
+  refused false r e h p = refused_call (λ n. n ∷ []) r e _ (_ ∷ []) _ (out ∷ seen ∷ []) h p
 
   pub done : (observe : Bool) (count : ℕ) (picture seen' : List ℕ) → first (tests_by observe looked bank t mode lane out seen) ≡ 0
       → count ≡ reads_each t mode * texels_by looked t
@@ -46,7 +51,12 @@ module _ (looked : Bool) (bank : List ℕ) (t : Tile) (mode lane : ℕ) (out see
       rw (n, ← reads_count looked t mode lane bank, p, s, reading_by_lem looked t mode lane) (done_is _ _ _ _ z)
 
   -- without a trail, what is left of the picture is the rule's
-  pub alone : (r : Answer) (out' seen' : List ℕ) → answered r (out' ∷ seen' ∷ []) ≡ outcome_by false looked bank t mode lane out seen
+  pub alone : (r : Result ℕ Refusal) (out' seen' : List ℕ)
+      → answered r (out' ∷ seen' ∷ []) ≡ outcome_by false looked bank t mode lane out seen
       → answered r (out' ∷ []) ≡ picture_call (reading_by looked t mode lane) (texels_by looked t) bank t mode lane out
   unfolding untold_call picture_call call first_alone
-  alone r out' seen' e = ap first_alone e ∙ settled_alone _ _ _ _ _ _ _
+  alone r out' seen' e = one r ∙ ap first_alone e ∙ settled_alone _ _ _ _ _ _ _
+    where
+      one : (r : Result ℕ Refusal) → answered r (out' ∷ []) ≡ first_alone (answered r (out' ∷ seen' ∷ []))
+      one (Ok n) = refl
+      one (Err f) = refl

@@ -1,6 +1,5 @@
 -- Laws of the tables of entries: their halves; each texel once, and all that an index byte can stand for.
 use mathlib.Core.Path.{◌≡◌, refl, ◌∙◌}
-use mathlib.Core.Logic.{inl, inr, ⊎_elim}
 use mathlib.Core.Bool.{Bool, true, false, cond}
 use mathlib.Core.List.{List}
 use Prim.Native.Nat.{ℕ, ◌+◌, ◌*◌, ◌<◌, ◌≤◌}
@@ -12,30 +11,13 @@ use lib.ListN.{length, get_or, set}
 use lib.Seq.{get_or-set_same, get_or-set_other}
 use Rattle.rules.specs.Reading.{given}
 use Rattle.rules.specs.Tile.{Tile}
-use Rattle.rules.specs.Texdec.{entry_of, rgba16_texel, ia16_texel, nibble, channels, ia8_table}
+use Rattle.rules.specs.Texdec.{entry_of, rgba16_texel, ia16_texel, nibble, channels}
 use Rattle.rules.specs.Picture.{entry_at}
-use Rattle.texdec.specs.Ready.{ia4_table, halves_of}
+use Rattle.texdec.specs.Ready.{halves_of}
 use Rattle.texdec.proofs.Halves.{Sums, rgba16_halves_at, ia16_halves_at}
 use Rattle.texdec.proofs.Nibbles.{nibble_small}
 use Rattle.decoder.specs.Tables.{entry_format, half_sum, first_entry, entry_count, entry_gives}
-use Rattle.decoder.specs.Tables.{EntryTable, DirectTable, Tabled, TexelTable}
-
--- the table of a format is that of its number
-module _ {k : ℕ} {table : List ℕ} where
-  pub of_rgba16 : DirectTable k table → k ≡ 66 → table ≡ halves_of rgba16_texel
-  of_rgba16 (inl p) e = p.1
-  of_rgba16 (inr (inl p)) e = absurd (omega (arith, p.0))
-  of_rgba16 (inr (inr p)) e = absurd (omega (arith, p.0))
-
-  pub of_ia4 : DirectTable k table → k ≡ 76 → table ≡ ia4_table
-  of_ia4 (inl p) e = absurd (omega (arith, p.0))
-  of_ia4 (inr (inl p)) e = p.1
-  of_ia4 (inr (inr p)) e = absurd (omega (arith, p.0))
-
-  pub of_ia8 : DirectTable k table → (k ≡ 66 → ⊥) → (k ≡ 76 → ⊥) → (k ≡ 77) × (table ≡ ia8_table)
-  of_ia8 (inl p) a b = absurd (a p.0)
-  of_ia8 (inr (inl p)) a b = absurd (b p.0)
-  of_ia8 (inr (inr p)) a b = p
+use Rattle.decoder.specs.Tables.{EntryTable}
 
 -- the halves of a mode's entries make their texels
 pub entry_sums : (mode hi lo : ℕ) → hi < 256 → lo < 256
@@ -89,29 +71,3 @@ module _ (t : Tile) where
           → channels (get_or table (cond b (t.palette * 16 + n) v) 0) ≡ entry_gives mode lane bank (cond b (t.palette * 16 + n) v)
       go n v p q true g = g n p
       go n v p q false g = rw zero-add at (g v q)
-
--- each of the tables is that of its kinds
-module _ {t : Tile} {mode lane : ℕ} {bank table : List ℕ} (k : ℕ) where
-  pub no_table : k < 64 → TexelTable t mode lane bank table k
-  no_table h =
-      record { direct = λ a b. absurd (omega arith); entries = λ a b. absurd (omega arith); halves = λ a. absurd (omega arith) }
-
-  pub format_table : k < 96 → DirectTable k table → TexelTable t mode lane bank table k
-  format_table h d = record { direct = λ a b. d; entries = λ a b. absurd (omega arith); halves = λ a. absurd (omega arith) }
-
-  pub halves_table : Tabled k → 128 ≤ k → table ≡ halves_of (entry_format mode) → TexelTable t mode lane bank table k
-  halves_table d h e =
-      record {
-        direct = λ a b. absurd (⊎_elim (λ p. omega arith) (⊎_elim (λ p. omega arith) (λ p. omega arith)) (d a b));
-        entries = λ a b. absurd (omega arith);
-        halves = λ a. e;
-      }
-
-  pub entry-table : Tabled k → (k ≡ 66 → ⊥) → (k ≡ 76 → ⊥) → (k ≡ 77 → ⊥) → k < 128 → EntryTable t mode lane bank table
-      → TexelTable t mode lane bank table k
-  entry-table d a b c h e =
-      record {
-        direct = λ p q. absurd (⊎_elim a (⊎_elim b c) (d p q));
-        entries = λ p q. e;
-        halves = λ p. absurd (omega arith);
-      }

@@ -1,10 +1,9 @@
--- The tables that the texels of a tile are taken from, by the number of their kind.
-use Rattle.std.specs.Prelude.{◌≡◌, ◌⊎◌, cond, List, ℕ, ◌+◌, ◌*◌, ◌%◌, ◌<◌, ◌≤◌, eqb, length, get_or}
+-- The tables that the texels of modes 2 and 3 are taken from.
+use Rattle.std.specs.Prelude.{◌≡◌, cond, List, ℕ, ◌+◌, ◌*◌, ◌<◌, eqb, length, get_or}
 use Rattle.rules.specs.Reading.{given}
 use Rattle.rules.specs.Tile.{Tile}
-use Rattle.rules.specs.Texdec.{channels, rgba16_texel, ia16_texel, ia8_table}
+use Rattle.rules.specs.Texdec.{channels, rgba16_texel, ia16_texel}
 use Rattle.rules.specs.Picture.{index, entry_at, entry_texel}
-use Rattle.texdec.specs.Ready.{ia4_table, halves_of}
 
 -- what the two bytes of an entry give in a mode, as one number
 abbrev pub entry_format : ℕ → ℕ → List ℕ
@@ -29,18 +28,3 @@ entry_gives mode lane bank i = given (entry_texel mode (get_or bank (entry_at i 
 pub record EntryTable (t : Tile) (mode lane : ℕ) (bank table : List ℕ) : Type 0 where
   pub size : length table ≡ 256
   pub at : (x v : ℕ) → v < 256 → channels (get_or table (index t x v) 0) ≡ entry_gives mode lane bank (index t x v)
-
--- the kinds with a table are from 64 on; of them those of formats are three
-abbrev pub Tabled : ℕ → Type 0
-Tabled k = 64 ≤ k → k % 64 < 32 → (k ≡ 66) ⊎ ((k ≡ 76) ⊎ (k ≡ 77))
-
--- the table of such a format
-abbrev pub DirectTable : ℕ → List ℕ → Type 0
-DirectTable k table =
-    ((k ≡ 66) × (table ≡ halves_of rgba16_texel)) ⊎ (((k ≡ 76) × (table ≡ ia4_table)) ⊎ ((k ≡ 77) × (table ≡ ia8_table)))
-
--- the table of a kind: none below 64, that of a format, that of entries, and from 128 on that of their halves
-pub record TexelTable (t : Tile) (mode lane : ℕ) (bank table : List ℕ) (k : ℕ) : Type 0 where
-  pub direct : 64 ≤ k → k % 64 < 32 → DirectTable k table
-  pub entries : 96 ≤ k → k < 128 → EntryTable t mode lane bank table
-  pub halves : 128 ≤ k → table ≡ halves_of (entry_format mode)

@@ -3,8 +3,9 @@ ghost use Rattle.std.specs.Prelude.{[], ◌∷◌, ◌≡◌};
 ghost use Rattle.rdp.specs.View.{tile_of, answered};
 ghost use Rattle.decoder.specs.Asked.{outcome_by};
 
+use crate::asked::Asked;
 use crate::decode::decode_picture;
-use rdp::answer::Answer;
+use rdp::refusal::Refusal;
 use rdp::tile::TileDescriptor;
 
 #[derive(Drop)]
@@ -14,27 +15,24 @@ pub(crate) struct BankDecoder<'a> {
 
 impl<'a> BankDecoder<'a> {
     // The decoder of a bank.
-    pub(crate) fn new(bytes: &'a [u8]) -> BankDecoder<'a>
+    pub(crate) fn of_bank(bytes: &'a [u8]) -> BankDecoder<'a>
         ensures { result.bytes ≡ bytes.entry }
     {
         BankDecoder { bytes }
     }
 
-    // The picture of a tile, with the trail of its reads if it is observed; else the trail stays as it was lent.
+    // The picture that is asked for, with the trail of its reads if it is observed; else the trail stays as it was lent.
     pub(crate) fn picture(
         self,
-        tile: TileDescriptor,
-        tlut_fmt: u32,
-        lane: u32,
-        lookup: bool,
-        observe: bool,
+        asked: Asked,
         out: &mut [u8],
         seen: &mut [u8],
-    ) -> Answer
+    ) -> Result<u32, Refusal>
         ensures { answered result (out.new ∷ seen.new ∷ [])
-            ≡ outcome_by observe lookup self.entry.bytes.now (tile_of tile) tlut_fmt lane out.old seen.old }
+            ≡ outcome_by asked.observe asked.lookup self.entry.bytes.now (tile_of asked.tile) asked.tlut_fmt asked.lane
+            out.old seen.old }
     {
-        decode_picture(self.bytes, tile, tlut_fmt, lane, lookup, observe, out, seen)
+        decode_picture(self.bytes, asked, out, seen)
     }
 }
 
@@ -48,9 +46,16 @@ pub(crate) fn picture_of(
     observe: bool,
     out: &mut [u8],
     seen: &mut [u8],
-) -> Answer
+) -> Result<u32, Refusal>
     ensures { answered result (out.new ∷ seen.new ∷ [])
         ≡ outcome_by observe lookup bank.now (tile_of tile) tlut_fmt lane out.old seen.old }
 {
-    BankDecoder::new(bank).picture(tile, tlut_fmt, lane, lookup, observe, out, seen)
+    let asked = Asked {
+        tile,
+        tlut_fmt,
+        lane,
+        lookup,
+        observe,
+    };
+    BankDecoder::of_bank(bank).picture(asked, out, seen)
 }

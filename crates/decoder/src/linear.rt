@@ -4,14 +4,14 @@ ghost use Rattle.rules.specs.Calls.{linear_tests, linear_call};
 ghost use Rattle.rules.specs.Linear.{linear_pair};
 ghost use Rattle.rules.specs.Refusal.{first};
 ghost use Rattle.rules.specs.Tile.{linear_fields_outside};
+ghost use Rattle.rdp.specs.Refused.{refusal_of};
 ghost use Rattle.rdp.specs.View.{tile_of, answered};
 
-use crate::format::format_reads;
-use crate::source_rows::decode_source_rows;
-use rdp::answer::Answer;
-use rdp::refusal::refuse;
+use crate::format::Format;
+use crate::source_rows::put_source_rows;
+use rdp::refusal::{Refusal, refuse};
+use rdp::tile;
 use rdp::tile::TileDescriptor;
-use rdp::{refusal, tile};
 use texdec::format::FormatInfo;
 
 // One of the five fields that the decoding takes is outside its range.
@@ -36,45 +36,30 @@ fn is_linear(tile: TileDescriptor) -> bool
 }
 
 // The first refusal: 2, 4, 5, 6.
-fn linear_refusal(source: &[u8], tile: TileDescriptor, stride: u32, out: &[u8]) -> u32
-    ensures { result ≡ first (linear_tests source.now (tile_of tile) stride out.now) }
+fn check_linear(source: &[u8], tile: TileDescriptor, stride: u32, out: &[u8]) -> Result<(), Refusal>
+    ensures { refusal_of result ≡ first (linear_tests source.now (tile_of tile) stride out.now) }
 {
-    if fields_outside(tile) {
-        return refusal::TILE;
-    }
+    refuse(Refusal::Tile, fields_outside(tile))?;
+    refuse(Refusal::Load, (65536 < source.len()) | (65535 < stride))?;
+    refuse(Refusal::Pair, !is_linear(tile))?;
     let texels = tile.width as usize * tile.height as usize;
-    let short = refuse(refusal::BUFFER, out.len() < 4 * texels, 0);
-    let no = refuse(refusal::PAIR, !is_linear(tile), short);
-    refuse(refusal::LOAD, (65536 < source.len()) | (65535 < stride), no)
+    refuse(Refusal::Buffer, out.len() < 4 * texels)
 }
 
 // The picture, and the count of its reads, or the refusal with the picture as it was lent.
-pub fn decode_linear(source: &[u8], tile: TileDescriptor, stride: u32, picture: &mut [u8]) -> Answer
+pub fn decode_linear(
+    source: &[u8],
+    tile: TileDescriptor,
+    stride: u32,
+    picture: &mut [u8],
+) -> Result<u32, Refusal>
     ensures { answered result (picture.new ∷ [])
         ≡ linear_call source.now (tile_of tile) stride picture.old }
 {
-    let no = linear_refusal(source, tile, stride, picture);
-    if no != 0 {
-        return Answer {
-            refusal: no,
-            count: 0,
-        };
-    }
-    let width = tile.width as usize;
-    let rows = tile.height as usize;
-    let place = 4 * tile.fmt + tile.siz;
-    let reads = format_reads(place) * (width * rows);
-    decode_source_rows(
-        source,
-        place,
-        tile.palette,
-        stride as usize,
-        width,
-        rows,
-        picture,
-    );
-    Answer {
-        refusal: 0,
-        count: reads as u32,
-    }
+    check_linear(source, tile, stride, picture)?;
+    let format = Format::of_tile(tile);
+    let texels = tile.width as usize * tile.height as usize;
+    let reads = format.reads() * texels;
+    put_source_rows(source, format, tile, stride as usize, picture);
+    Ok(reads as u32)
 }

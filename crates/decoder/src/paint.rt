@@ -1,23 +1,19 @@
-// The table that a picture's texels are taken from, by its kind and its texels, and the picture by it.
-ghost use Rattle.std.specs.Prelude.{◌≡◌, List, ℕ, ◌*◌, ◌%◌, ◌<◌, ◌≤◌, length};
+// The table that a picture's texels are taken from, by its format and its texels, and the picture by it.
+ghost use Rattle.std.specs.Prelude.{◌≡◌, ◌*◌, ◌<◌, ◌≤◌, length};
 ghost use Rattle.rules.specs.Base.{over};
 ghost use Rattle.rules.specs.Reading.{given, trail};
-ghost use Rattle.rules.specs.Tile.{InRange};
-ghost use Rattle.rdp.specs.View.{tile_of};
-ghost use Rattle.decoder.specs.Tables.{TexelTable, Tabled};
-ghost use Rattle.decoder.specs.Rows.{Ready, all_rows, told};
+ghost use Rattle.decoder.specs.Rows.{all_rows, told};
 
-use crate::format::{
-    HALVES, HALVES_WHOLE_BYTE, IA4, IA8, READY, READY_HIGH_NIBBLE, READY_IA4, READY_IA8,
-    READY_NIBBLE, READY_RGBA16, READY_WHOLE_BYTE, RGBA16,
-};
+use crate::format::Format;
+use crate::kind::Kind;
+use crate::painter::Painter;
+use crate::part::Part;
 use crate::plan::Plan;
-use crate::rows::decode_rows;
 use crate::table::{entry_table, halves_of};
 use texdec::ia4::ia4_table;
 use texdec::ia8::ia8_table;
-use texdec::palette::{HIGH_NIBBLE, NIBBLE, WHOLE_BYTE};
 use texdec::rgba16::rgba16_halves;
+use tmem::bank::Bank;
 
 // Up to so many texels no table pays for itself, and up to so many more the halves of the entries cost less than all 256 entries.
 // They were chosen by time (docs/SPEED.md): the picture is the same by each.
@@ -25,56 +21,68 @@ const NO_TABLE_UP_TO: usize = 16;
 
 const HALVES_UP_TO: usize = 256;
 
-// A kind with the table that pays for so many texels, if any does.
-pub(crate) fn table_kind(kind: u32, texels: usize) -> u32
-    requires { kind < 64 }
-    ensures result_value { result % 64 ≡ kind }
-    ensures tabled { Tabled result }
-{
-    if texels <= NO_TABLE_UP_TO {
-        return kind;
-    }
-    match kind {
-        RGBA16 => READY_RGBA16,
-        IA4 => READY_IA4,
-        IA8 => READY_IA8,
-        WHOLE_BYTE => if texels <= HALVES_UP_TO {
-            HALVES_WHOLE_BYTE
-        } else {
-            READY_WHOLE_BYTE
-        },
-        NIBBLE => READY_NIBBLE,
-        HIGH_NIBBLE => READY_HIGH_NIBBLE,
-        _ => kind,
-    }
-}
-
-// All rows, by the table of the kind.
-pub(crate) fn paint(bank: &[u8], plan: Plan, kind: u32, out: &mut [u8], seen: &mut [u8])
-    requires by_index { (table : List ℕ) → TexelTable (tile_of plan.tile) plan.tlut_fmt plan.lane bank.now table kind
-        → Ready bank.now table plan kind }
-    requires tabled { Tabled kind }
-    requires in_range { InRange (tile_of plan.tile) }
+// All rows without a lookup table, by the table of the format that pays for so many texels, if any does.
+fn paint_direct(bank: &[u8; Bank::SIZE], plan: Plan, texels: usize, out: &mut [u8], seen: &mut [u8])
+    requires mode { plan.picture.tlut < 2 }
     requires rows_in_bounds { 4 * plan.width * plan.rows ≤ length out.old }
     requires rows_in_bounds_2 { plan.step * plan.width * plan.rows ≤ length seen.old }
     ensures out_after { out.new ≡ over (given (all_rows plan) bank.now) out.old }
     ensures seen_after { seen.new ≡ over (told plan.observe (trail (all_rows plan) bank.now)) seen.old }
 {
-    if kind < READY {
-        return decode_rows(bank, &[0u32; 1], plan, kind, out, seen);
+    let format = Format::of_tile(plan.picture.tile);
+    if texels <= NO_TABLE_UP_TO {
+        return Painter::new(bank, plan, Kind::Direct(format)).rows(out, seen);
     }
-    if kind == READY_RGBA16 {
-        return decode_rows(bank, &rgba16_halves(), plan, kind, out, seen);
+    match format {
+        Format::Rgba16 => Painter::new(bank, plan, Kind::Rgba16By(&rgba16_halves())).rows(
+            out, seen,
+        ),
+        Format::Ia4 => Painter::new(bank, plan, Kind::Ia4By(&ia4_table())).rows(out, seen),
+        Format::Ia8 => Painter::new(bank, plan, Kind::Ia8By(&ia8_table())).rows(out, seen),
+        _ => Painter::new(bank, plan, Kind::Direct(format)).rows(out, seen),
     }
-    if kind == READY_IA4 {
-        return decode_rows(bank, &ia4_table(), plan, kind, out, seen);
+}
+
+// All rows through the lookup table, by the table that pays for so many texels, if any does.
+fn paint_entries(
+    bank: &[u8; Bank::SIZE],
+    plan: Plan,
+    texels: usize,
+    out: &mut [u8],
+    seen: &mut [u8],
+)
+    requires mode { 2 ≤ plan.picture.tlut }
+    requires rows_in_bounds { 4 * plan.width * plan.rows ≤ length out.old }
+    requires rows_in_bounds_2 { plan.step * plan.width * plan.rows ≤ length seen.old }
+    ensures out_after { out.new ≡ over (given (all_rows plan) bank.now) out.old }
+    ensures seen_after { seen.new ≡ over (told plan.observe (trail (all_rows plan) bank.now)) seen.old }
+{
+    let part = Part::of_tile(plan.picture.tile);
+    if texels <= NO_TABLE_UP_TO {
+        return Painter::new(bank, plan, Kind::Entry(part)).rows(out, seen);
     }
-    if kind == READY_IA8 {
-        return decode_rows(bank, &ia8_table(), plan, kind, out, seen);
+    match part {
+        Part::WholeByte if texels <= HALVES_UP_TO => {
+            let halves = halves_of(plan.picture.tlut);
+            Painter::new(bank, plan, Kind::HalvesBy(&halves)).rows(out, seen)
+        }
+        _ => {
+            let table = entry_table(bank, plan.picture);
+            Painter::new(bank, plan, Kind::EntryBy(part, &table)).rows(out, seen)
+        }
     }
-    if HALVES <= kind {
-        return decode_rows(bank, &halves_of(plan.tlut_fmt), plan, kind, out, seen);
+}
+
+// All rows.
+pub(crate) fn paint(bank: &[u8; Bank::SIZE], plan: Plan, out: &mut [u8], seen: &mut [u8])
+    requires rows_in_bounds { 4 * plan.width * plan.rows ≤ length out.old }
+    requires rows_in_bounds_2 { plan.step * plan.width * plan.rows ≤ length seen.old }
+    ensures out_after { out.new ≡ over (given (all_rows plan) bank.now) out.old }
+    ensures seen_after { seen.new ≡ over (told plan.observe (trail (all_rows plan) bank.now)) seen.old }
+{
+    let texels = plan.texels();
+    if 2 <= plan.picture.tlut {
+        return paint_entries(bank, plan, texels, out, seen);
     }
-    let table = entry_table(bank, plan.tile, plan.tlut_fmt, plan.lane);
-    decode_rows(bank, &table, plan, kind, out, seen)
+    paint_direct(bank, plan, texels, out, seen)
 }

@@ -3,10 +3,11 @@ ghost use Rattle.std.specs.Prelude.{◌≡◌, [], ◌∷◌};
 ghost use Rattle.rules.specs.Calls.{picture_call, sample_tile_call, sample_tile_observed_call};
 ghost use Rattle.rules.specs.Calls.{sampling_lookup_call, sampling_lookup_observed_call};
 ghost use Rattle.rdp.specs.View.{tile_of, answered};
-ghost use Rattle.decoder.specs.Asked.{reading_by, texels_by};
+ghost use Rattle.decoder.specs.Asked.{reading_by};
+ghost use Rattle.decoder.specs.Sizes.{texels_by};
 
 use crate::bank_decoder::picture_of;
-use rdp::answer::Answer;
+use rdp::refusal::Refusal;
 use rdp::tile::TileDescriptor;
 
 // The picture alone. A trail that nobody asked for is a byte of its own.
@@ -17,7 +18,7 @@ fn picture_alone(
     lane: u32,
     lookup: bool,
     out: &mut [u8],
-) -> Answer
+) -> Result<u32, Refusal>
     ensures { answered result (out.new ∷ [])
         ≡ picture_call (reading_by lookup (tile_of tile) tlut_fmt lane) (texels_by lookup (tile_of tile)) bank.now
         (tile_of tile) tlut_fmt lane out.old }
@@ -33,7 +34,7 @@ pub fn sample_tile_lane(
     tlut_fmt: u32,
     lane: u32,
     out: &mut [u8],
-) -> Answer
+) -> Result<u32, Refusal>
     ensures { answered result (out.new ∷ [])
         ≡ sample_tile_call bank.now (tile_of tile) tlut_fmt lane out.old }
 {
@@ -48,7 +49,7 @@ pub fn sample_tile_lane_observed(
     lane: u32,
     out: &mut [u8],
     seen: &mut [u8],
-) -> Answer
+) -> Result<u32, Refusal>
     ensures { answered result (out.new ∷ seen.new ∷ [])
         ≡ sample_tile_observed_call bank.now (tile_of tile) tlut_fmt lane out.old seen.old }
 {
@@ -62,7 +63,7 @@ pub fn sampling_lookup_lane(
     tlut_fmt: u32,
     lane: u32,
     out: &mut [u8],
-) -> Answer
+) -> Result<u32, Refusal>
     ensures { answered result (out.new ∷ [])
         ≡ sampling_lookup_call bank.now (tile_of tile) tlut_fmt lane out.old }
 {
@@ -77,7 +78,7 @@ pub fn sampling_lookup_lane_observed(
     lane: u32,
     out: &mut [u8],
     seen: &mut [u8],
-) -> Answer
+) -> Result<u32, Refusal>
     ensures { answered result (out.new ∷ seen.new ∷ [])
         ≡ sampling_lookup_observed_call bank.now (tile_of tile) tlut_fmt lane out.old seen.old }
 {

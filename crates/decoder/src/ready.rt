@@ -1,50 +1,45 @@
 // A texel without a lookup table whose channels are taken from a table of ready texels.
-ghost use Rattle.std.specs.Prelude.{◌≡◌, ◌%◌, ◌<◌, ◌≤◌};
+ghost use Rattle.std.specs.Prelude.{◌≡◌};
+ghost use Rattle.rules.specs.Texdec.{rgba16, ia4, ia8, rgba16_texel, ia8_table};
 ghost use Rattle.rules.specs.Picture.{direct};
-ghost use Rattle.decoder.specs.Steps.{format_at, Decodes};
-ghost use Rattle.decoder.specs.Tables.{DirectTable};
+ghost use Rattle.texdec.specs.Ready.{ia4_table, halves_of};
+ghost use Rattle.decoder.specs.Steps.{Decodes};
 
-use crate::format::{READY_IA4, READY_RGBA16};
-use crate::load::load_byte;
+use crate::load::Spot;
 use crate::table::half_sum;
 use crate::texel::Texel;
-use rdp::units::ByteAddr;
 use texdec::ia8::texel_bytes;
 use texdec::nibble::nibble;
+use tmem::bank::Bank;
 
-// Of RGBA16 its two halves, of IA4 the texel of the nibble, of IA8 that of the byte.
-pub(crate) fn ready_texel(
-    bank: &[u8],
-    table: &[u32],
-    kind: u32,
-    base: ByteAddr,
-    palette: u32,
-    rel: usize,
-    odd: bool,
-    x: usize,
-) -> Texel
-    requires direct_table { DirectTable kind table.now }
-    requires base_bound { base.0 ≤ 34359738367 }
-    requires rel_bound { rel < 4294967296 }
-    ensures { Decodes (direct (format_at (kind % 64)) base.0 palette odd rel x) bank.now result }
+// Of RGBA16 the halves of its two bytes.
+#[inline(always)]
+pub(crate) fn rgba16_by(bank: &[u8; Bank::SIZE], halves: &[u32; 512], spot: Spot) -> Texel
+    requires { halves.now ≡ halves_of rgba16_texel }
+    ensures { Decodes (direct rgba16 spot.base.0 spot.palette spot.odd spot.rel spot.x) bank.now result }
 {
-    let load = load_byte(bank, base, rel, odd);
-    let byte = load.byte;
-    if kind == READY_RGBA16 {
-        let lo = load_byte(bank, base, rel + 1, odd);
-        return Texel {
-            channels: texel_bytes(half_sum(table, byte, lo.byte)),
-            reads: [load.at, lo.at, 0, 0],
-            count: 2,
-        };
-    }
-    let channels = match kind {
-        READY_IA4 => texel_bytes(table[nibble(x, byte) as usize]),
-        _ => texel_bytes(table[byte as usize]),
-    };
-    Texel {
-        channels,
-        reads: [load.at, 0, 0, 0],
-        count: 1,
-    }
+    let hi = spot.load(bank, 0);
+    let lo = spot.load(bank, 1);
+    Texel::two(hi, lo, texel_bytes(half_sum(halves, hi.byte, lo.byte)))
+}
+
+// Of IA4 the texel of the nibble.
+#[inline(always)]
+pub(crate) fn ia4_by(bank: &[u8; Bank::SIZE], table: &[u32; 16], spot: Spot) -> Texel
+    requires { table.now ≡ ia4_table }
+    ensures { Decodes (direct ia4 spot.base.0 spot.palette spot.odd spot.rel spot.x) bank.now result }
+{
+    let load = spot.load(bank, 0);
+    let n = nibble(spot.x, load.byte);
+    Texel::one(load, texel_bytes(table[n as usize]))
+}
+
+// Of IA8 that of the byte.
+#[inline(always)]
+pub(crate) fn ia8_by(bank: &[u8; Bank::SIZE], table: &[u32; 256], spot: Spot) -> Texel
+    requires { table.now ≡ ia8_table }
+    ensures { Decodes (direct ia8 spot.base.0 spot.palette spot.odd spot.rel spot.x) bank.now result }
+{
+    let load = spot.load(bank, 0);
+    Texel::one(load, texel_bytes(table[load.byte as usize]))
 }

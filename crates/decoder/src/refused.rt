@@ -1,52 +1,36 @@
-// The refusals of a picture call, in document 01's order.
-ghost use Rattle.std.specs.Prelude.{◌≡◌};
-ghost use Rattle.rules.specs.Refusal.{first};
+// The refusals of a picture call beside those of its pair, in document 01's order.
+ghost use Rattle.std.specs.Prelude.{◌≡◌, ◌*◌, ◌≤◌, IfOk, [], ◌∷◌, length};
+ghost use Rattle.rules.specs.Calls.{not_bytes};
+ghost use Rattle.rules.specs.Refusal.{first, ◌if◌};
+ghost use Rattle.rules.specs.Tile.{bank_size};
+ghost use Rattle.rdp.specs.Refused.{refusal_of};
 ghost use Rattle.rdp.specs.View.{tile_of};
-ghost use Rattle.decoder.specs.Asked.{early_tests, tests_by};
+ghost use Rattle.decoder.specs.Asked.{room_tests};
+ghost use Rattle.decoder.specs.Sizes.{texels_by};
 
-use crate::format::tile_reads;
-use crate::sizes::texel_count;
-use rdp::refusal;
-use rdp::refusal::refuse;
-use rdp::tile::TileDescriptor;
-use texdec::pair::pair_refusal;
+use crate::plan::Plan;
+use rdp::refusal::{Refusal, refuse};
 use tmem::bank::Bank;
 
-// The first refusal of the tests before the buffers': 1 for the bank, then those of a pair.
-fn early_refusal(bank: &[u8], tile: TileDescriptor, tlut_fmt: u32, lane: u32) -> u32
-    ensures { result ≡ first (early_tests bank.now (tile_of tile) tlut_fmt lane) }
+// The bank, if it is whole: else 1.
+#[tactic(auto, unfolding(rules::specs::Refusal::first))]
+pub(crate) fn whole_bank(bank: &[u8]) -> Result<&[u8; Bank::SIZE], Refusal>
+    ensures refused { refusal_of result ≡ first ((1 if not_bytes bank_size bank.now) ∷ []) }
+    ensures same { IfOk result (λ b. b.now ≡ bank.now) }
 {
-    refuse(
-        refusal::LENGTH,
-        bank.len() != Bank::SIZE,
-        pair_refusal(tile, tlut_fmt, lane),
-    )
+    bank.try_into().map_err(|_| Refusal::Length)
 }
 
-// The first refusal of all tests.
-pub(crate) fn first_refusal(
-    bank: &[u8],
-    tile: TileDescriptor,
-    tlut_fmt: u32,
-    lane: u32,
-    lookup: bool,
-    observe: bool,
-    out: &[u8],
-    seen: &[u8],
-) -> u32
-    ensures { result
-        ≡ first (tests_by observe lookup bank.now (tile_of tile) tlut_fmt lane out.now seen.now) }
+// The reads of the picture, if the buffers have room: else 6 for the picture's, then 7 for the trail's.
+pub(crate) fn check_room(plan: Plan, out: &[u8], seen: &[u8]) -> Result<u32, Refusal>
+    ensures refused { refusal_of result
+        ≡ first (room_tests plan.observe (texels_by plan.lookup (tile_of plan.picture.tile)) plan.each out.now seen.now) }
+    ensures reads { IfOk result
+        (λ n. n ≡ plan.each * texels_by plan.lookup (tile_of plan.picture.tile)) }
 {
-    let early = early_refusal(bank, tile, tlut_fmt, lane);
-    if early != 0 {
-        return early;
-    }
-    let texels = texel_count(tile, lookup);
-    let each = tile_reads(tile, tlut_fmt);
-    let no = refuse(
-        refusal::TRAIL,
-        observe & (seen.len() / 2 < each * texels),
-        0,
-    );
-    refuse(refusal::BUFFER, out.len() < 4 * texels, no)
+    let texels = plan.texels();
+    let reads = plan.each * texels;
+    refuse(Refusal::Buffer, out.len() < 4 * texels)?;
+    refuse(Refusal::Trail, plan.observe & (seen.len() / 2 < reads))?;
+    Ok(reads as u32)
 }

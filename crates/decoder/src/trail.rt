@@ -5,15 +5,18 @@ ghost use Rattle.rules.specs.Reading.{encoded};
 ghost use Rattle.decoder.specs.Rows.{capped};
 
 // An address goes to the front of the trail.
+#[inline(always)]
 fn note_read(at: usize, seen: &mut [u8])
     requires { 2 ≤ length seen.old }
     ensures { seen.new ≡ over (encoded (at ∷ [])) seen.old }
 {
+    // By hand: an address is a usize, and `to_be_bytes` would want a remainder and a cast first.
     seen[0] = (at / 256 % 256) as u8;
     seen[1] = (at % 256) as u8;
 }
 
 // Address i goes to its place behind those before it, if it is one of the first `count`.
+#[inline(always)]
 fn note_one(reads: [usize; 4], count: usize, i: usize, seen: &mut [u8])
     requires count_bound { (count ≤ 4) × (length reads ≡ 4) }
     requires count_in_bounds { 2 * count ≤ length seen.old }
@@ -29,6 +32,7 @@ fn note_one(reads: [usize; 4], count: usize, i: usize, seen: &mut [u8])
 
 // The first `count` addresses, in their order. The loop always has four steps, so that the compiler can write them out; the test
 // tells it what the contract says.
+#[inline(always)]
 pub(crate) fn note_reads(reads: [usize; 4], count: usize, seen: &mut [u8])
     requires count_bound { (count ≤ 4) × (length reads ≡ 4) }
     requires count_in_bounds { 2 * count ≤ length seen.old }

@@ -10,10 +10,10 @@ pub returns : goal.returns
 unfolding direct given trail
 returns c =
     simp (
-      c.load_byte_rgba32-r.ensures,
-      c.load_byte_rgba32-g.ensures,
-      c.load_byte_rgba32-b.ensures,
-      c.load_byte_rgba32-a.ensures,
+      c.load_half-r.ensures,
+      c.load_half-g.ensures,
+      c.load_half-b.ensures,
+      c.load_half-a.ensures,
       add-zero,
     )
     (record { channels = refl; reads = refl; few = omega arith; full = refl })

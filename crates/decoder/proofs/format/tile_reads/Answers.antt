@@ -1,24 +1,16 @@
--- `decoder::format::tile_reads` is the count of the tile's kind. Assumes nothing.
-use Rattle.decoder.proofs.Formats.{placed, format_few}
-use Rattle.decoder.specs.Steps.{format_at}
-use Rattle.rules.specs.Picture.{format_reads, reads_each}
+-- `decoder::format::tile_reads` is the count of the tile's format, or 3. Assumes nothing.
+use Rattle.decoder.proofs.Formats.{direct-known}
+use Rattle.rules.specs.Picture.{reads_each}
 use borrow.Author.Tests.{le-leb, lt-leb}
-use native.Mathlib.Omega.{arith}
-use mathlib.Core.Path.{◌∙◌, ap}
 use Rattle.decoder.proofs.format.tile_reads.Goals as goal
 
-pub returns-then-tlut_fmt-ge2 : goal.returns-then-tlut_fmt-ge2
+pub returns-then-picture-ge2-clause-value : goal.returns-then-picture-ge2-clause-value
 unfolding reads_each
-returns-then-tlut_fmt-ge2 c = record {
-  value = rw (le-leb _ _ c.if-tlut_fmt-ge2.true);
-  upper_bound = omega arith;
-}
+returns-then-picture-ge2-clause-value c = rw (le-leb _ _ c.if-picture-ge2.true)
 
-pub returns : goal.returns
+pub of_tile-requires-clause-knows : goal.of_tile-requires-clause-knows
+of_tile-requires-clause-knows c = direct-known _ _ _ c.if-picture-ge2.false c.args.picture.pair_accepted
+
+pub returns-clause-value : goal.returns-clause-value
 unfolding reads_each
-returns c =
-    let few = lt-leb 2 c.args.tlut_fmt c.if-tlut_fmt-ge2.false in record {
-      value = rw (few, placed _ _ c.requires.siz)
-          (c.format_reads.ensures ∙ ap (λ n. format_reads (format_at n)) (rw few at c.kind_of.ensures));
-      upper_bound = rw c.format_reads.ensures (format_few (format_at c.kind_of.result));
-    }
+returns-clause-value c = rw (lt-leb _ _ c.if-picture-ge2.false, ← c.of_tile.ensures) c.reads.ensures.value

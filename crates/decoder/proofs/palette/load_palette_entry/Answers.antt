@@ -7,10 +7,10 @@ pub returns-then-tlut_fmt-eq2 : goal.returns-then-tlut_fmt-eq2
 unfolding given
 returns-then-tlut_fmt-eq2 c =
     let mode = eq-eqb _ _ c.if-tlut_fmt-eq2.true in
-    simp (c.decode_rgba16_entry.ensures, c.entry_of-entry.ensures, c.byte_at-2.ensures, c.byte_at.ensures, mode)
+    simp (c.decode_rgba16_entry.ensures, c.entry_of-entry.ensures, mode)
 
 pub returns-else-tlut_fmt-eq2 : goal.returns-else-tlut_fmt-eq2
 unfolding given
 returns-else-tlut_fmt-eq2 c =
     let mode = ne_eqb _ _ c.if-tlut_fmt-eq2.false in
-    simp (c.decode_ia16_entry.ensures, c.entry_of-entry.ensures, c.byte_at-2.ensures, c.byte_at.ensures, mode)
+    simp (c.decode_ia16_entry.ensures, c.entry_of-entry.ensures, mode)

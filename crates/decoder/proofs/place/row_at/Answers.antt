@@ -14,19 +14,16 @@ starts t y h =
     omega (arith, mul-le-mul row stride)
 
 pub returns-then-lookup : goal.returns-then-lookup
-returns-then-lookup c = record {
-  value = rw c.if-lookup.true;
-  row_bounds = record { start = omega arith; scale = omega arith; first = omega arith; step = omega arith };
-}
+returns-then-lookup c = rw c.if-lookup.true
+
+pub invariant_of-result-2 : goal.invariant_of-result-2
+invariant_of-result-2 c =
+    record {
+      start_bound = rw c.row_start.ensures (starts (tile_of c.args.picture.tile) c.args.y c.args.picture.in_range.line);
+      scale_bound = c.scale_of.ensures.upper_bound;
+      first_bound = omega arith;
+      step_bound = omega arith;
+    }
 
 pub returns : goal.returns
-returns c =
-    record {
-      value = rw (c.if-lookup.false, c.scale_of.ensures.value, c.row_start.ensures);
-      row_bounds = record {
-        start = rw c.row_start.ensures (starts (tile_of c.args.tile) c.args.y c.requires.in_range.line);
-        scale = c.scale_of.ensures.upper_bound;
-        first = omega arith;
-        step = omega arith;
-      };
-    }
+returns c = rw (c.if-lookup.false, c.scale_of.ensures.value, c.row_start.ensures)

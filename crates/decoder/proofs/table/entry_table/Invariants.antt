@@ -7,4 +7,4 @@ use Rattle.decoder.proofs.table.entry_table.Given as goal
 
 abbrev pub invariant-loop-k : goal.invariant-loop-k
 invariant-loop-k l =
-    (l.k ≤ l.count) × (length l.table ≡ 256) × Filled l.tlut_fmt l.lane l.bank l.first l.table l.k
+    (l.k ≤ l.count) × (length l.table ≡ 256) × Filled l.picture.tlut l.picture.lane l.bank l.first l.table l.k

@@ -1,0 +1,15 @@
+-- `decoder::source_row::SourceRow::put_past` writes the first texel again and again: past the source.s end all are the same.
+use Rattle.decoder.specs.Formats.{rule_of}
+use Rattle.decoder.specs.Linear.{linear_part}
+use Rattle.rules.specs.Reading.{given}
+use Rattle.rules.specs.Base.{over}
+use lib.ListN.{length}
+use Prim.Native.Nat.{◌≤◌}
+use mathlib.Core.Path.{◌≡◌}
+use Rattle.decoder.proofs.source_row.SourceRow.put_past.Given as goal
+
+abbrev pub invariant-loop-x : goal.invariant-loop-x
+invariant-loop-x l =
+    (l.x ≤ l.width)
+    × (l.out ≡ over (given (linear_part (rule_of l.self.format) l.self.palette l.self.start l.x) l.self.source.now) l.initial.out)
+    × (length l.out ≡ length l.initial.out)
