@@ -15,14 +15,14 @@ use Rattle.rules.specs.Reading.{Reading, trail, up_to}
 use Rattle.rules.specs.Picture.{swap_odd, address, index, entry_at, paletted, texel, column, row_start, lookup_row, lookup}
 use Rattle.key.specs.Notes.{noted}
 use Rattle.key.specs.Words.{word_texels, ask_one, entries_of, word_reading, index_word, index_words}
-use Rattle.key.specs.Words.{sparse_reading, sparse_word, sparse_words}
 use Rattle.rules.proofs.Formats.{texel-tlut}
 use Rattle.rules.proofs.Tables.{mem_head, mem-tail}
 use Rattle.key.proofs.Flips.{mem_cases, mem_none}
 use Rattle.key.proofs.Lift.{found}
 use Rattle.key.proofs.Period.{covered}
+use Rattle.key.proofs.Steps.{place_small, place_apart, place_of}
 use Rattle.key.proofs.WordLaws.{noted-same, same_yes, turned, turned_lt, turned_even, turned_twice, at_byte, row_texel}
-use Rattle.key.proofs.WordLaws.{mem-one, one-mem, in_word, word_in, then_cases, then_mem}
+use Rattle.key.proofs.WordLaws.{mem-one, one-mem, then_cases, then_mem}
 use Rattle.key.proofs.WordLaws.{start_bytes, start_word}
 
 -- where byte c of a row stands in the lower half
@@ -88,66 +88,51 @@ record HitWord (t : Tile) (lane : ℕ) (b : List ℕ) (a step first n : ℕ) : T
   pub inside : word < n
   pub places : HitPlace t lane b a step ((first + word) % 256)
 
-module _ (t : Tile) (lane : ℕ) (b : List ℕ) (a : ℕ) where
-  index_to : (at : ℕ) → mem a (trail (index_word t lane b at) []) ≡ true → HitPlace t lane b a 1 at
-  unfolding index_word
-  index_to at h =
-      ⊎_elim
-      (λ m.
-      let k = found (λ k. entries_of t lane (get_or b (8 * at + k) 0)) [] 8 a m in
-      record { place = k.at; small = k.inside; apart = omega arith; hits = inr k.reads })
-      (λ m.
-      let e : a ≡ 8 * at + a % 8 = omega (arith, in_word a at m) in
-      record { place = a % 8; small = omega arith; apart = omega arith; hits = inl e })
-      (then_cases (up_to 8 (λ k. entries_of t lane (get_or b (8 * at + k) 0))) (word_reading at) [] a h)
+module _ (t : Tile) (lane : ℕ) (b : List ℕ) (a step : ℕ) (positive : 0 < step) (small : step ≤ 2) where
+  -- the index bytes of a word, and the entries of one
+  bytes_at : ℕ → ℕ → Reading
+  bytes_at at k = ask_one (8 * at + step * k)
 
-  to_index : (at : ℕ) → HitPlace t lane b a 1 at → mem a (trail (index_word t lane b at) []) ≡ true
-  unfolding index_word
-  to_index at h =
-      then_mem (up_to 8 (λ k. entries_of t lane (get_or b (8 * at + k) 0))) (word_reading at) [] a
-      (⊎_elim (λ e. inr (word_in a at (omega (arith, h.small))))
-      (λ m. inl (covered (λ k. entries_of t lane (get_or b (8 * at + k) 0)) [] 8 h.place a h.small m)) h.hits)
+  entries_at : ℕ → ℕ → Reading
+  entries_at at k = entries_of t lane (get_or b (8 * at + step * k) 0)
 
-  sparse_to : (at : ℕ) → mem a (trail (sparse_word t lane b at) []) ≡ true → HitPlace t lane b a 2 at
-  unfolding sparse_word sparse_reading
-  sparse_to at h =
-      ⊎_elim
-      (λ m.
-      let k = found (λ k. entries_of t lane (get_or b (8 * at + 2 * k) 0)) [] 4 a m in
-      record { place = 2 * k.at; small = omega (arith, k.inside); apart = omega arith; hits = inr k.reads })
-      (λ m.
-      let k = found (λ k. ask_one (8 * at + 2 * k)) [] 4 a m in
-      record { place = 2 * k.at; small = omega (arith, k.inside); apart = omega arith; hits = inl (mem-one a _ k.reads) })
-      (then_cases (up_to 4 (λ k. entries_of t lane (get_or b (8 * at + 2 * k) 0))) (sparse_reading at) [] a h)
+  word_places : (at : ℕ) → mem a (trail (index_word step t lane b at) []) ≡ true → HitPlace t lane b a step at
+  unfolding index_word word_reading bytes_at entries_at
+  word_places at h =
+      ⊎_elim (λ m. let k = found (entries_at at) [] (8 / step) a m in place k.at k.inside (inr k.reads))
+      (λ m. let k = found (bytes_at at) [] (8 / step) a m in place k.at k.inside (inl (mem-one a _ k.reads)))
+      (then_cases (up_to (8 / step) (entries_at at)) (word_reading step at) [] a h)
+    where
+      place : (k : ℕ) → k < 8 / step → IndexHit t lane b a (8 * at + step * k) → HitPlace t lane b a step at
+      place k l h =
+          record { place = step * k; small = place_small step k positive small l; apart = place_apart step k positive small; hits = h }
 
-  to_sparse : (at : ℕ) → HitPlace t lane b a 2 at → mem a (trail (sparse_word t lane b at) []) ≡ true
-  unfolding sparse_word sparse_reading
-  to_sparse at h =
-      let k : ℕ = h.place / 2 in
-      let e : h.place ≡ 2 * k = omega (arith, h.apart) in
-      let l : k < 4 = omega (arith, h.small) in
-      then_mem (up_to 4 (λ k. entries_of t lane (get_or b (8 * at + 2 * k) 0))) (sparse_reading at) [] a
-      (⊎_elim (λ q. inr (covered (λ k. ask_one (8 * at + 2 * k)) [] 4 k a l (one-mem a _ q)))
-      (λ m. inl (covered (λ k. entries_of t lane (get_or b (8 * at + 2 * k) 0)) [] 4 k a l m)) (rw e at h.hits))
+  places_word : (at : ℕ) → HitPlace t lane b a step at → mem a (trail (index_word step t lane b at) []) ≡ true
+  unfolding index_word word_reading bytes_at entries_at
+  places_word at h =
+      let k : ℕ = h.place / step in
+      let p = place_of step h.place positive small h.small h.apart in
+      then_mem (up_to (8 / step) (entries_at at)) (word_reading step at) [] a
+      (⊎_elim (λ q. inr (covered (bytes_at at) [] (8 / step) k a p.0 (one-mem a _ q)))
+      (λ m. inl (covered (entries_at at) [] (8 / step) k a p.0 m)) (rw p.1 at h.hits))
 
   -- words that have such places read what R reads where R reads those
-  module _ (step first n : ℕ) (word : ℕ → Reading)
-      (word_to : (at : ℕ) → mem a (trail (word at) []) ≡ true → HitPlace t lane b a step at)
-      (to_word : (at : ℕ) → HitPlace t lane b a step at → mem a (trail (word at) []) ≡ true) (R : Reading)
-      (to : mem a (trail R b) ≡ true → HitWord t lane b a step first n)
+  module _ (first n : ℕ) (R : Reading) (to : mem a (trail R b) ≡ true → HitWord t lane b a step first n)
       (from : HitWord t lane b a step first n → mem a (trail R b) ≡ true) where
-    same_words : mem a (trail (up_to n (λ w. word ((first + w) % 256))) []) ≡ mem a (trail R b)
+    same_words : mem a (trail (index_words step t lane b first n) []) ≡ mem a (trail R b)
+    unfolding index_words
     same_words = same_yes _ _ there back
       where
-        there : mem a (trail (up_to n (λ w. word ((first + w) % 256))) []) ≡ true → mem a (trail R b) ≡ true
+        there : mem a (trail (up_to n (λ w. index_word step t lane b ((first + w) % 256))) []) ≡ true → mem a (trail R b) ≡ true
         there h =
-            let p = found (λ w. word ((first + w) % 256)) [] n a h in
-            from (record { word = p.at; inside = p.inside; places = word_to ((first + p.at) % 256) p.reads })
+            let p = found (λ w. index_word step t lane b ((first + w) % 256)) [] n a h in
+            from (record { word = p.at; inside = p.inside; places = word_places ((first + p.at) % 256) p.reads })
 
-        back : mem a (trail R b) ≡ true → mem a (trail (up_to n (λ w. word ((first + w) % 256))) []) ≡ true
+        back : mem a (trail R b) ≡ true → mem a (trail (up_to n (λ w. index_word step t lane b ((first + w) % 256))) []) ≡ true
         back h =
             let p = to h in
-            covered (λ w. word ((first + w) % 256)) [] n p.word a p.inside (to_word ((first + p.word) % 256) p.places)
+            covered (λ w. index_word step t lane b ((first + w) % 256)) [] n p.word a p.inside
+            (places_word ((first + p.word) % 256) p.places)
 
 -- a texel that reads the index byte at A as one in column p does; what it reads, R reads
 record Reader (t : Tile) (mode lane : ℕ) (b : List ℕ) (a : ℕ) (R : Reading) (A p : ℕ) : Type 0 where
@@ -195,10 +180,9 @@ module _ (t : Tile) (mode lane : ℕ) (b : List ℕ) (a : ℕ) (by_table : 2 ≤
           (⊎_elim (λ e. mem-tail a _ _ (rw (← e) (mem_head a _))) (λ e. mem-tail a _ _ (mem-tail a _ _ (rw (← e) (mem_head a [])))) e))
 
   -- every index byte of the lower half
-  lookup_words : mem a (trail (index_words t lane b 0 256) []) ≡ mem a (trail (lookup t mode lane) b)
-  unfolding lookup lookup_row index_words
-  lookup_words =
-      same_words t lane b a 1 0 256 (index_word t lane b) (index_to t lane b a) (to_index t lane b a) (lookup t mode lane) to from
+  lookup_words : mem a (trail (index_words 1 t lane b 0 256) []) ≡ mem a (trail (lookup t mode lane) b)
+  unfolding lookup lookup_row
+  lookup_words = same_words t lane b a 1 (omega arith) (omega arith) 0 256 (lookup t mode lane) to from
     where
       to : mem a (trail (lookup t mode lane) b) ≡ true → HitWord t lane b a 1 0 256
       to h =
@@ -240,12 +224,10 @@ module _ (t : Tile) (mode lane : ℕ) (b : List ℕ) (a : ℕ) (by_table : 2 ≤
       (below : (x : ℕ) → x < T * n → (column t mode x < 8 * n) × (column t mode x % step ≡ 0))
       (back : (c p : ℕ) → c < 8 * n → c % step ≡ 0 → p < 2
       → (pick c p < T * n) × (column t mode (pick c p) ≡ c) × ((v : ℕ) → index t (pick c p) v ≡ index t p v))
-      (word : ℕ → Reading) (word_to : (at : ℕ) → mem a (trail (word at) []) ≡ true → HitPlace t lane b a step at)
-      (to_word : (at : ℕ) → HitPlace t lane b a step at → mem a (trail (word at) []) ≡ true) where
-    index_row : mem a (trail (up_to n (λ w. word ((t.tmem_addr + s + w) % 256))) [])
+      (positive : 0 < step) (small : step ≤ 2) where
+    index_row : mem a (trail (index_words step t lane b (t.tmem_addr + s) n) [])
         ≡ mem a (trail (up_to (T * n) (row_texel t mode lane o s)) b)
-    index_row =
-        same_words t lane b a step (t.tmem_addr + s) n word word_to to_word (up_to (T * n) (row_texel t mode lane o s)) to from
+    index_row = same_words t lane b a step positive small (t.tmem_addr + s) n (up_to (T * n) (row_texel t mode lane o s)) to from
       where
         to : mem a (trail (up_to (T * n) (row_texel t mode lane o s)) b) ≡ true → HitWord t lane b a step (t.tmem_addr + s) n
         to h =
@@ -297,32 +279,30 @@ module _ (t : Tile) (mode lane : ℕ) (b : List ℕ) (a : ℕ) (by_table : 2 ≤
     any-byte : (w r : ℕ) → r % 1 ≡ 0 → (turned o (r % 8) % 1 ≡ 0) × ((8 * w + r) % 1 ≡ 0)
     any-byte w r h = (omega arith, omega arith)
 
-    same_indices : t.siz < 2 → mem a (trail (index_words t lane b (t.tmem_addr + s) n) [])
+    same_indices : t.siz < 2 → mem a (trail (index_words 1 t lane b (t.tmem_addr + s) n) [])
         ≡ mem a (trail (up_to (word_texels t.siz * n) (row_texel t mode lane o s)) b)
-    unfolding index_words
     same_indices short = go (ℕ_discrete t.siz 0)
       where
-        go : Dec (t.siz ≡ 0) → mem a (trail (index_words t lane b (t.tmem_addr + s) n) [])
+        go : Dec (t.siz ≡ 0) → mem a (trail (index_words 1 t lane b (t.tmem_addr + s) n) [])
             ≡ mem a (trail (up_to (word_texels t.siz * n) (row_texel t mode lane o s)) b)
         go (yes z) =
             let w : word_texels t.siz ≡ 16 = rw z in
             rw w
             (index_row o s n 1 16 (λ c p. 2 * c + p) any-byte (λ x l. (rw (column_of x, z) (omega arith), omega arith))
             (λ c p l d h. (omega arith, rw (column_of (2 * c + p), z) (omega arith), λ v. index_same t (2 * c + p) p v (omega arith)))
-            (index_word t lane b) (index_to t lane b a) (to_index t lane b a))
+            (omega arith) (omega arith))
         go (no z) =
             let e : t.siz ≡ 1 = omega arith in
             let w : word_texels t.siz ≡ 8 = rw e in
             rw w
             (index_row o s n 1 8 (λ c p. c) any-byte (λ x l. (rw (column_of x, e) l, omega arith))
-            (λ c p l d h. (l, rw (column_of c, e), λ v. rw e)) (index_word t lane b) (index_to t lane b a) (to_index t lane b a))
+            (λ c p l d h. (l, rw (column_of c, e), λ v. rw e)) (omega arith) (omega arith))
 
     even_byte : (w r : ℕ) → r % 2 ≡ 0 → (turned o (r % 8) % 2 ≡ 0) × ((8 * w + r) % 2 ≡ 0)
     even_byte w r h = (turned_even o (r % 8) (omega arith), omega arith)
 
-    same_sparse : 2 ≤ t.siz → mem a (trail (sparse_words t lane b (t.tmem_addr + s) n) [])
+    same_sparse : 2 ≤ t.siz → mem a (trail (index_words 2 t lane b (t.tmem_addr + s) n) [])
         ≡ mem a (trail (up_to (word_texels t.siz * n) (row_texel t mode lane o s)) b)
-    unfolding sparse_words
     same_sparse long =
         let z : eqb t.siz 0 ≡ false = ne_eqb t.siz 0 (λ e. omega arith) in
         let d : eqb t.siz 1 ≡ false = ne_eqb t.siz 1 (λ e. omega arith) in
@@ -330,8 +310,7 @@ module _ (t : Tile) (mode lane : ℕ) (b : List ℕ) (a : ℕ) (by_table : 2 ≤
         let twice : (x : ℕ) → column t mode x ≡ 2 * x = λ x. column_of x ∙ rw (z, d) in
         rw w
         (index_row o s n 2 4 (λ c p. c / 2) even_byte (λ x l. rw (twice x) (omega arith, omega arith))
-        (λ c p l e h. (omega arith, rw (twice (c / 2)) (omega arith), λ v. rw z))
-        (sparse_word t lane b) (sparse_to t lane b a) (to_sparse t lane b a))
+        (λ c p l e h. (omega arith, rw (twice (c / 2)) (omega arith), λ v. rw z)) (omega arith) (omega arith))
 
 -- the words of row y are noted: so are its texels, as many as they have
 module _ (t : Tile) (mode lane y words : ℕ) (b seen u : List ℕ) (by_table : 2 ≤ mode) (not_yuv : eqb t.fmt 1 ≡ false) where
@@ -339,19 +318,19 @@ module _ (t : Tile) (mode lane y words : ℕ) (b seen u : List ℕ) (by_table : 
   RowNoted =
       u ≡ noted seen (trail (up_to (word_texels t.siz * words) (λ x. texel t mode lane (odd y) (row_start t y + column t mode x) x)) b)
 
-  pub index_row_noted : t.siz < 2 → u ≡ noted seen (trail (index_words t lane b (t.tmem_addr + row_start t y / 8) words) []) → RowNoted
+  pub index_row_noted : t.siz < 2 → u ≡ noted seen (trail (index_words 1 t lane b (t.tmem_addr + row_start t y / 8) words) []) → RowNoted
   index_row_noted short e =
       e
       ∙ noted-same seen _ _
       (λ a. rw (start_word t y, start_bytes t y) (same_indices t mode lane b a by_table (odd y) (y % 256 * t.line) words not_yuv short))
 
-  pub sparse_row_noted : 2 ≤ t.siz → u ≡ noted seen (trail (sparse_words t lane b (t.tmem_addr + row_start t y / 8) words) []) → RowNoted
+  pub sparse_row_noted : 2 ≤ t.siz → u ≡ noted seen (trail (index_words 2 t lane b (t.tmem_addr + row_start t y / 8) words) []) → RowNoted
   sparse_row_noted long e =
       e
       ∙ noted-same seen _ _
       (λ a. rw (start_word t y, start_bytes t y) (same_sparse t mode lane b a by_table (odd y) (y % 256 * t.line) words not_yuv long))
 
 -- all words of the lower half are noted: so is a lookup
-pub lookup-noted : (t : Tile) (mode lane : ℕ) (b seen u : List ℕ) → 2 ≤ mode → u ≡ noted seen (trail (index_words t lane b 0 256) [])
+pub lookup_noted : (t : Tile) (mode lane : ℕ) (b seen u : List ℕ) → 2 ≤ mode → u ≡ noted seen (trail (index_words 1 t lane b 0 256) [])
     → u ≡ noted seen (trail (lookup t mode lane) b)
-lookup-noted t mode lane b seen u h e = e ∙ noted-same seen _ _ (λ a. lookup_words t mode lane b a h)
+lookup_noted t mode lane b seen u h e = e ∙ noted-same seen _ _ (λ a. lookup_words t mode lane b a h)

@@ -1,5 +1,6 @@
 -- Demand 3 as theorems, and the laws that the key's code is proved by.
 pub mod Notes
+pub mod Steps
 pub mod WordLaws
 pub mod IndexLaws
 pub mod One

@@ -2,7 +2,7 @@
 use mathlib.Core.Path.{◌≡◌, refl, ap, ◌∙◌}
 use mathlib.Core.Bool.{Bool, true, false, cond, ◌||◌}
 use mathlib.Core.List.{List, [], ◌∷◌, ◌++◌}
-use Prim.Native.Nat.{ℕ, ◌+◌, ◌%◌, ◌<◌, ◌≤◌}
+use Prim.Native.Nat.{ℕ, ◌+◌, ◌*◌, ◌%◌, ◌<◌, ◌≤◌}
 use native.Mathlib.Omega.{arith}
 use native.Mathlib.Decide.{ℕ_discrete, dec_lt}
 use lib.Dec.{eqb}
@@ -13,9 +13,11 @@ use Rattle.rules.specs.Base.{one, mem}
 use Rattle.rules.specs.Texdec.{accepted_direct, format_of}
 use Rattle.rules.specs.Sampling.{is_rgba32}
 use Rattle.rules.specs.Reading.{Reading, trail, up_to}
-use Rattle.rules.specs.Picture.{swap_odd, direct}
+use Rattle.rules.specs.Tile.{Tile}
+use Rattle.rules.specs.Picture.{swap_odd, direct, paletted, texel}
 use Rattle.key.specs.Notes.{noted, Notes}
-use Rattle.rules.proofs.Formats.{reads_by, direct-trail}
+use Rattle.key.specs.Words.{ask_one}
+use Rattle.rules.proofs.Formats.{reads_by, direct-trail, texel-tlut, texel-direct}
 use Rattle.rules.proofs.Readings.{trail_more}
 
 pub noted-append : (s l m : List ℕ) → noted s (l ++ m) ≡ noted (noted s l) m
@@ -32,6 +34,21 @@ length-noted s (a ∷ l) = length-noted (set s a 1) l ∙ length-set s a 1
 pub noted_more : (s : List ℕ) (f : ℕ → Reading) (b : List ℕ) (n : ℕ)
     → noted s (trail (up_to (n + 1) f) b) ≡ noted (noted s (trail (up_to n f) b)) (trail (f n) b)
 noted_more s f b n = ap (noted s) (trail_more f b n) ∙ noted-append s (trail (up_to n f) b) (trail (f n) b)
+
+pub noted_step : (s t u : List ℕ) (f : ℕ → Reading) (b : List ℕ) (n : ℕ) → t ≡ noted s (trail (up_to n f) b) → u ≡ noted t (trail (f n) b)
+    → u ≡ noted s (trail (up_to (n + 1) f) b)
+noted_step s t u f b n e g = rw noted_more (g ∙ rw e)
+
+pub noted_one : (s : List ℕ) (a : ℕ) (b : List ℕ) → set s a 1 ≡ noted s (trail (ask_one a) b)
+unfolding noted trail
+noted_one s a b = refl
+
+pub noted_none : (s : List ℕ) (f : ℕ → Reading) (b : List ℕ) → s ≡ noted s (trail (up_to 0 f) b)
+unfolding noted trail up_to
+noted_none s f b = refl
+
+-- a loop that notes one reading after another
+pub ruleset walked = (noted_none, noted_step, noted_one)
 
 -- what is noted of a direct texel, by the number of its bytes
 module _ (s : List ℕ) (fmt siz base : ℕ) (odd : Bool) (rel p q : ℕ) (pair : accepted_direct fmt siz ≡ true)
@@ -51,6 +68,16 @@ module _ (s : List ℕ) (fmt siz base : ℕ) (odd : Bool) (rel p q : ℕ) (pair 
       → (palette x : ℕ) (bank : List ℕ) → t ≡ noted s (trail (direct (format_of fmt siz) base palette odd rel x) bank)
   unfolding noted reads_by
   two-noted t r h e palette x bank = rw (direct-trail fmt siz base palette odd rel x bank pair, r, le-ltb siz 2 h, e, first, second)
+
+-- a texel by its mode
+pub noted_by_table : (s u : List ℕ) (t : Tile) (mode lane : ℕ) (odd : Bool) (rel x : ℕ) (b : List ℕ) → 2 ≤ mode
+    → u ≡ noted s (trail (paletted t mode lane odd rel x) b) → u ≡ noted s (trail (texel t mode lane odd rel x) b)
+noted_by_table s u t mode lane odd rel x b h e = rw (texel-tlut t mode lane odd rel x h) e
+
+pub noted_direct : (s u : List ℕ) (t : Tile) (mode lane : ℕ) (odd : Bool) (rel x : ℕ) (b : List ℕ) → mode < 2
+    → u ≡ noted s (trail (direct (format_of t.fmt t.siz) (8 * t.tmem_addr) t.palette odd rel x) b)
+    → u ≡ noted s (trail (texel t mode lane odd rel x) b)
+noted_direct s u t mode lane odd rel x b h e = rw (texel-direct t mode lane odd rel x h) e
 
 pub note_at : (s l : List ℕ) (a : ℕ) → a < length s → get_or (noted s l) a 0 ≡ cond (mem a l) 1 (get_or s a 0)
 unfolding noted mem

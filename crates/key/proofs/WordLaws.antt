@@ -24,7 +24,8 @@ use Rattle.rules.proofs.Computed.{agree_below}
 use Rattle.rules.proofs.Formats.{reads_by, pair_reads, direct-trail, accepted-direct, texel-direct}
 use Rattle.rules.proofs.Readings.{trail_then}
 use Rattle.rules.proofs.Tables.{mem_head, mem-tail, mem-append}
-use Rattle.key.proofs.Notes.{note_at, length-noted, noted-append}
+use Rattle.key.proofs.Steps.{place_small}
+use Rattle.key.proofs.Notes.{walked, note_at, length-noted, noted-append}
 use Rattle.key.proofs.Flips.{mem_cases, mem_none}
 use Rattle.key.proofs.Lift.{Place, found}
 use Rattle.key.proofs.Period.{covered}
@@ -48,13 +49,16 @@ pub then_noted : (s t u : List ℕ) (p q : Reading) (b : List ℕ) → t ≡ not
 then_noted s t u p q b e f =
     f ∙ rw e (sym (noted-append s (trail p b) (trail q b)) ∙ ap (noted s) (sym (trail_then p q b)))
 
--- the words of both halves, and one word
-pub both_noted : (s t u : List ℕ) (both : Bool) (word : ℕ) → both ≡ true → t ≡ noted s (trail (word_reading (word % 256)) [])
-    → u ≡ noted t (trail (word_reading (word % 256 + 256)) []) → u ≡ noted s (trail (direct_word both word) [])
-unfolding direct_word
-both_noted s t u both word y e f = rw y (then_noted s t u (word_reading (word % 256)) (word_reading (word % 256 + 256)) [] e f)
+-- a loop over the places of a word, and what follows it
+pub ruleset stepped = (place_small, walked, then_noted)
 
-pub word_noted : (s u : List ℕ) (both : Bool) (word : ℕ) → both ≡ false → u ≡ noted s (trail (word_reading (word % 512)) [])
+-- the words of both halves, and one word
+pub both_noted : (s t u : List ℕ) (both : Bool) (word : ℕ) → both ≡ true → t ≡ noted s (trail (word_reading 1 (word % 256)) [])
+    → u ≡ noted t (trail (word_reading 1 (word % 256 + 256)) []) → u ≡ noted s (trail (direct_word both word) [])
+unfolding direct_word
+both_noted s t u both word y e f = rw y (then_noted s t u (word_reading 1 (word % 256)) (word_reading 1 (word % 256 + 256)) [] e f)
+
+pub word_noted : (s u : List ℕ) (both : Bool) (word : ℕ) → both ≡ false → u ≡ noted s (trail (word_reading 1 (word % 512)) [])
     → u ≡ noted s (trail (direct_word both word) [])
 unfolding direct_word
 word_noted s u both word n e = rw n e
@@ -97,17 +101,17 @@ pub one-mem : (a x : ℕ) → a ≡ x → mem a (trail (ask_one x) []) ≡ true
 unfolding trail mem
 one-mem a x e = rw (eq-eqb a x e)
 
-pub in_word : (a at : ℕ) → mem a (trail (word_reading at) []) ≡ true → a / 8 ≡ at
+pub in_word : (a at : ℕ) → mem a (trail (word_reading 1 at) []) ≡ true → a / 8 ≡ at
 unfolding word_reading
 in_word a at h =
-    let p = found (λ k. ask_one (8 * at + k)) [] 8 a h in
-    let e : a ≡ 8 * at + p.at = mem-one a _ p.reads in
+    let p = found (λ k. ask_one (8 * at + 1 * k)) [] 8 a h in
+    let e : a ≡ 8 * at + 1 * p.at = mem-one a _ p.reads in
     omega (arith, p.inside)
 
-pub word_in : (a at : ℕ) → a / 8 ≡ at → mem a (trail (word_reading at) []) ≡ true
+pub word_in : (a at : ℕ) → a / 8 ≡ at → mem a (trail (word_reading 1 at) []) ≡ true
 unfolding word_reading
 word_in a at h =
-    covered (λ k. ask_one (8 * at + k)) [] 8 (a % 8) a (omega arith) (one-mem a _ (omega arith))
+    covered (λ k. ask_one (8 * at + 1 * k)) [] 8 (a % 8) a (omega arith) (one-mem a _ (omega arith))
 
 -- where byte c of a row stands, before it wraps
 pub at_byte : (o : Bool) (tmem s w r : ℕ) → r < 8 → 8 * tmem + swap_odd o (8 * s + (8 * w + r)) ≡ 8 * (tmem + s + w) + turned o r
@@ -157,7 +161,7 @@ module _ (tmem : ℕ) (o : Bool) (s a : ℕ) where
       go false h l k = omega (arith, in_word a _ h)
       go true h l k =
           ⊎_elim (λ m. inl (omega (arith, in_word a _ m))) (λ m. inr (omega (arith, in_word a _ m)))
-          (then_cases (word_reading ((tmem + s + w) % 256)) (word_reading ((tmem + s + w) % 256 + 256)) [] a h)
+          (then_cases (word_reading 1 ((tmem + s + w) % 256)) (word_reading 1 ((tmem + s + w) % 256 + 256)) [] a h)
 
   hits_word : (both : Bool) (w r : ℕ) → r < 8 → Hit both tmem o s a (8 * w + r) → mem a (trail (direct_word both (tmem + s + w)) []) ≡ true
   unfolding direct_word
@@ -165,7 +169,7 @@ module _ (tmem : ℕ) (o : Bool) (s a : ℕ) where
   hits_word true w r k h =
       let l = at_byte o tmem s w r k in
       let t = turned_lt o r k in
-      then_mem (word_reading ((tmem + s + w) % 256)) (word_reading ((tmem + s + w) % 256 + 256)) [] a
+      then_mem (word_reading 1 ((tmem + s + w) % 256)) (word_reading 1 ((tmem + s + w) % 256 + 256)) [] a
       (⊎_elim (λ e. inl (word_in a _ (omega arith))) (λ e. inr (word_in a _ (omega arith))) h)
 
   module _ (both : Bool) (n texels : ℕ) (f : ℕ → Reading) (b : List ℕ)

@@ -25,8 +25,13 @@ pub(crate) fn kept_byte(byte: u8, note: u8) -> u8
 }
 
 // A part of the key, and how many of its bytes are kept. A byte holds the count, so that the processor adds many at once.
-fn cut_part(bank: &[u8], notes: &[u8], key: &mut [u8], from: usize) -> u8
-    requires bank_len { (length bank.now ≡ bank_size) × (length notes.now ≡ bank_size) × (length key.old ≡ bank_size) }
+// By index: bank, notes and key go side by side, and a zip of three is no plainer.
+fn cut_part(
+    bank: &[u8; Bank::SIZE],
+    notes: &[u8; Bank::SIZE],
+    key: &mut [u8; Bank::SIZE],
+    from: usize,
+) -> u8
     requires by_index { (i : ℕ) → get_or notes.now i 0 ≤ 1 }
     requires part_size_bound { from + part_size ≤ bank_size }
     ensures upper_bound { result ≤ part_size }
@@ -34,6 +39,7 @@ fn cut_part(bank: &[u8], notes: &[u8], key: &mut [u8], from: usize) -> u8
         → KeySoFar bank.now l (from + part_size) key.new × (distinct from l + result ≡ distinct (from + part_size) l) }
 {
     let mut count = 0u8;
+    // By index: three arrays stand side by side, and one of them is written.
     for k in 0..PART {
         let a = from + k;
         key[a] = kept_byte(bank[a], notes[a]);
@@ -43,13 +49,18 @@ fn cut_part(bank: &[u8], notes: &[u8], key: &mut [u8], from: usize) -> u8
 }
 
 // Noted bytes of the bank are kept, all others are zero, and the kept ones are counted.
-pub(crate) fn cut(bank: &[u8], notes: &[u8], key: &mut [u8]) -> u32
-    requires bank_len { (length bank.now ≡ bank_size) × (length notes.now ≡ bank_size) × (length key.old ≡ bank_size) }
+// By the part's index, since a part is cut by index.
+pub(crate) fn cut(
+    bank: &[u8; Bank::SIZE],
+    notes: &[u8; Bank::SIZE],
+    key: &mut [u8; Bank::SIZE],
+) -> u32
     requires by_index { (i : ℕ) → get_or notes.now i 0 ≤ 1 }
     ensures { (l : List ℕ) → Notes notes.now l
         → (key.new ≡ kept l bank.now) × (result ≡ distinct bank_size l) }
 {
     let mut count: u32 = 0;
+    // By the part's number, since it is the same part of three arrays.
     for part in 0..Bank::SIZE / PART {
         count += cut_part(bank, notes, key, PART * part) as u32;
     }

@@ -11,7 +11,7 @@ use Rattle.key.proofs.cut.cut.Goals as goal
 
 pub loop-part-init : goal.loop-part-init
 unfolding tab tab_from distinct KeySoFar
-loop-part-init c = record { few = omega arith; so_far = λ l n. (refl, refl) }
+loop-part-init c = record { whole = omega arith; few = omega arith; so_far = λ l n. (refl, refl) }
 
 pub returns : goal.returns
 unfolding kept KeySoFar

@@ -10,5 +10,7 @@ use Rattle.key.specs.Words.{entries_of}
 use Rattle.key.proofs.indices.note_index_word.Given as goal
 
 abbrev pub invariant-loop-k : goal.invariant-loop-k
-invariant-loop-k l =
-    l.notes ≡ noted l.initial.notes (trail (up_to l.k (λ k. entries_of (tile_of l.tile) l.lane (get_or l.bank (8 * l.at + k) 0))) [])
+invariant-loop-k g l =
+    let t = tile_of l.picture.tile in
+    l.notes
+    ≡ noted l.initial.notes (trail (up_to l.k (λ k. entries_of t l.picture.lane (get_or l.bank (8 * l.at + g.row.STEP * k) 0))) [])

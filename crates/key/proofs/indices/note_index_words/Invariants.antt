@@ -9,5 +9,7 @@ use Rattle.key.specs.Words.{index_word}
 use Rattle.key.proofs.indices.note_index_words.Given as goal
 
 abbrev pub invariant-loop-w : goal.invariant-loop-w
-invariant-loop-w l =
-    l.notes ≡ noted l.initial.notes (trail (up_to l.w (λ w. index_word (tile_of l.tile) l.lane l.bank ((l.first + w) % 256))) [])
+invariant-loop-w g l =
+    let t = tile_of l.picture.tile in
+    l.notes
+    ≡ noted l.initial.notes (trail (up_to l.w (λ w. index_word g.row.STEP t l.picture.lane l.bank ((l.first + w) % 256))) [])

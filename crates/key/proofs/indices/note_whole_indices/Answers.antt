@@ -7,22 +7,20 @@ use Rattle.key.specs.Notes.{noted}
 use Rattle.key.proofs.IndexLaws.{index_row_noted, sparse_row_noted}
 use Rattle.key.proofs.indices.note_whole_indices.Goals as goal
 
-pub returns-then-tile-eq1-clause-by_index : goal.returns-then-tile-eq1-clause-by_index
+pub returns-then-picture-eq1-clause-notes_after : goal.returns-then-picture-eq1-clause-notes_after
 unfolding noted trail up_to
-returns-then-tile-eq1-clause-by_index c = λ mode h. refl
+returns-then-picture-eq1-clause-notes_after c = refl
 
-pub returns-then-tile-ge2-clause-by_index : goal.returns-then-tile-ge2-clause-by_index
-returns-then-tile-ge2-clause-by_index c =
-    let a = c.args in
-    λ mode h.
+pub returns-then-picture-ge2-clause-notes_after : goal.returns-then-picture-ge2-clause-notes_after
+returns-then-picture-ge2-clause-notes_after c =
+    let p = c.args.picture in
     rw c.row_words-row.ensures.first_value.1
-    (sparse_row_noted (tile_of a.tile) mode a.lane a.y _ _ _ _ h (ne_eqb _ _ c.if-tile-eq1.false) c.if-tile-ge2.true
-    (rw c.row_words-row.ensures.first_value.0 at c.note_sparse_words.ensures))
+    (sparse_row_noted (tile_of p.tile) p.tlut p.lane c.args.y _ _ _ _ c.requires (ne_eqb _ _ c.if-picture-eq1.false)
+    c.if-picture-ge2.true (rw c.row_words-row.ensures.first_value.0 at c.note_index_words.ensures))
 
-pub returns-else-tile-ge2-clause-by_index : goal.returns-else-tile-ge2-clause-by_index
-returns-else-tile-ge2-clause-by_index c =
-    let a = c.args in
-    λ mode h.
+pub returns-else-picture-ge2-clause-notes_after : goal.returns-else-picture-ge2-clause-notes_after
+returns-else-picture-ge2-clause-notes_after c =
+    let p = c.args.picture in
     rw c.row_words-row.ensures.first_value.1
-    (index_row_noted (tile_of a.tile) mode a.lane a.y _ _ _ _ h (ne_eqb _ _ c.if-tile-eq1.false) c.if-tile-ge2.false
-    (rw c.row_words-row.ensures.first_value.0 at c.note_index_words.ensures))
+    (index_row_noted (tile_of p.tile) p.tlut p.lane c.args.y _ _ _ _ c.requires (ne_eqb _ _ c.if-picture-eq1.false)
+    c.if-picture-ge2.false (rw c.row_words-row.ensures.first_value.0 at c.note_index_words-else-picture-ge2.ensures))

@@ -8,4 +8,4 @@ use Rattle.key.proofs.rows.note_lookup.Given as goal
 
 abbrev pub invariant-loop-r : goal.invariant-loop-r
 invariant-loop-r l =
-    l.notes ≡ noted l.initial.notes (trail (up_to l.r (lookup_row (tile_of l.tile) l.tlut l.lane)) l.bank)
+    l.notes ≡ noted l.initial.notes (trail (up_to l.r (lookup_row (tile_of l.picture.tile) l.picture.tlut l.picture.lane)) l.bank)

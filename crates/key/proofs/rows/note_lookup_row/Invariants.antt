@@ -8,4 +8,6 @@ use Rattle.key.proofs.rows.note_lookup_row.Given as goal
 
 abbrev pub invariant-loop-rel : goal.invariant-loop-rel
 invariant-loop-rel l =
-    l.notes ≡ noted l.initial.notes (trail (up_to l.rel (λ k. texel (tile_of l.tile) l.tlut l.lane l.odd k l.parity)) l.bank)
+    let p = l.picture in
+    l.notes
+    ≡ noted l.initial.notes (trail (up_to l.rel (λ k. texel (tile_of p.tile) p.tlut p.lane l.odd k l.parity)) l.bank)

@@ -8,4 +8,4 @@ use Rattle.key.proofs.rows.note_plain.Given as goal
 
 abbrev pub invariant-loop-y : goal.invariant-loop-y
 invariant-loop-y l =
-    l.notes ≡ noted l.initial.notes (trail (up_to l.y (plain_row (tile_of l.tile) l.tlut l.lane)) l.bank)
+    l.notes ≡ noted l.initial.notes (trail (up_to l.y (plain_row (tile_of l.picture.tile) l.picture.tlut l.picture.lane)) l.bank)

@@ -11,6 +11,6 @@ use Rattle.key.proofs.rows.note_plain_row.Given as goal
 
 abbrev pub invariant-loop-x : goal.invariant-loop-x
 invariant-loop-x l =
-    let t = tile_of l.tile in
-    let row : ℕ → Reading = λ n. up_to n (λ x. texel t l.tlut l.lane l.odd (l.start + column t l.tlut x) x) in
+    let t = tile_of l.picture.tile in
+    let row : ℕ → Reading = λ n. up_to n (λ x. texel t l.picture.tlut l.picture.lane l.odd (l.start + column t l.picture.tlut x) x) in
     (s : List ℕ) → l.initial.notes ≡ noted s (trail (row l.from) l.bank) → l.notes ≡ noted s (trail (row l.x) l.bank)

@@ -8,5 +8,5 @@ use Rattle.key.specs.Words.{ask_one}
 use Rattle.key.proofs.words.note_word.Given as goal
 
 abbrev pub invariant-loop-k : goal.invariant-loop-k
-invariant-loop-k l =
-    l.notes ≡ noted l.initial.notes (trail (up_to l.k (λ k. ask_one (8 * l.at + k))) [])
+invariant-loop-k g l =
+    l.notes ≡ noted l.initial.notes (trail (up_to l.k (λ k. ask_one (8 * l.at + g.row.STEP * k))) [])

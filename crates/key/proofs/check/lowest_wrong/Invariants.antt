@@ -1,8 +1,0 @@
--- `key::check::lowest_wrong` goes from part to part. The loop's invariant: the parts before `part` are right. Assumes nothing.
-use Prim.Native.Nat.{◌*◌}
-use Rattle.key.specs.Offer.{wrong_by}
-use Rattle.key.proofs.Offers.{NoneBelow}
-use Rattle.key.proofs.check.lowest_wrong.Given as goal
-
-abbrev pub invariant-loop-part : goal.invariant-loop-part
-invariant-loop-part l = NoneBelow (wrong_by l.bank l.notes l.offer) 0 (64 * l.part)
