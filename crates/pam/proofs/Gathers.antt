@@ -1,17 +1,20 @@
 -- What is gathered of a header's lines, one field at a time: by the values that the lines state for it.
 use mathlib.Core.Path.{◌≡◌, refl, ap, sym, ◌∙◌}
-use mathlib.Core.Bool.{Bool, true, false, cond, not, false≢true, ◌&&◌, ◌||◌}
+use mathlib.Core.Bool.{Bool, true, false, cond, false≢true, ◌&&◌, ◌||◌}
 use mathlib.Core.List.{List, [], ◌∷◌, ◌++◌}
-use Prim.Native.Nat.{ℕ, min, ◌<◌, ◌≤◌}
+use Prim.Native.Nat.{ℕ, min}
 use Prim.Native.String.{String}
-use native.Mathlib.Omega.{arith}
 use lib.Dec.{eqb}
-use borrow.Author.Tests.{lt-ltb, ne_eqb, eqb-false}
-use Rattle.rules.specs.Base.{any, all, empty, same}
-use Rattle.rules.specs.Pam.{text, says, value, values, digit, number, is_count, once, stated, joined}
+use Rattle.std.specs.Prelude.{Option, Some, None}
+use Rattle.rules.specs.Base.{any, empty, same}
+use Rattle.rules.specs.Pam.{text, says, value, values, number, is_count, once, stated, joined}
 use Rattle.rules.proofs.Ranges.{neither}
 use Rattle.pam.specs.Line.{most, count_of, tuple_of}
-use Rattle.pam.specs.Gather.{bad, state_after, stated_once, tuple_after}
+use Rattle.pam.specs.Gather.{state_after, once_of, tuple_after, is_rgb_alpha}
+use Rattle.pam.specs.declared.line.Tuple.{Tuple}
+use Rattle.pam.specs.declared.line.Tuple.TheVariants.{RgbAlpha, Other as Another}
+use Rattle.pam.specs.declared.header.Field.{Field}
+use Rattle.pam.specs.declared.header.Field.TheVariants.{Unstated, Bad}
 use Rattle.pam.proofs.Texts.{and_false}
 
 -- a step for each of a list, from the first on
@@ -41,7 +44,7 @@ or_assoc : (a b c : Bool) → ((a || b) || c) ≡ (a || (b || c))
 or_assoc true b c = refl
 or_assoc false b c = refl
 
-or_false : (a : Bool) → (a || false) ≡ a
+pub or_false : (a : Bool) → (a || false) ≡ a
 or_false true = refl
 or_false false = refl
 
@@ -51,106 +54,46 @@ any_folded f b [] = sym (or_false b)
 any_folded f b (x ∷ l) = any_folded f (b || f x) l ∙ or_assoc b (f x) (any f l)
 
 -- Numbers.
-abbrev pub number_step : ℕ → List ℕ → ℕ
+abbrev pub number_step : Field → List ℕ → Field
 number_step s v = state_after s (count_of v)
 
-stays_bad : (vs : List (List ℕ)) → folded number_step bad vs ≡ bad
+stays_bad : (vs : List (List ℕ)) → folded number_step Bad vs ≡ Bad
 unfolding folded
 stays_bad [] = refl
 stays_bad (v ∷ vs) = stays_bad vs
 
-twice : (s : ℕ) (v : List ℕ) (vs : List (List ℕ)) → (s ≡ 0 → ⊥) → folded number_step s (v ∷ vs) ≡ bad
+-- "exactly once", and the number
+pub number-says : (vs : List (List ℕ)) → once_of (folded number_step Unstated vs) ≡ cond (once vs) (Some (min (stated vs) most)) None
 unfolding folded
-twice s v vs h = rw (ne_eqb s 0 h) (stays_bad vs)
-
-count_zero : (v : List ℕ) → is_count v ≡ false → count_of v ≡ 0
-count_zero v h = rw h
-
-count_is : (v : List ℕ) → is_count v ≡ true → count_of v ≡ min (number v) most
-count_is v h = rw h
-
-count_some : (v : List ℕ) → is_count v ≡ true → count_of v ≡ 0 → ⊥
-count_some v h z =
-    let n : number v ≡ 0 → ⊥ = eqb-false (number v) 0 (positive (empty v) (all digit v) (eqb (number v) 0) h) in
-    n (omega (arith, sym (count_is v h) ∙ z))
+number-says [] = refl
+number-says (v ∷ []) = go (is_count v)
   where
-    positive : (a b c : Bool) → (not a && b && not c) ≡ true → c ≡ false
-    positive a b false h = refl
-    positive true b true h = absurd (false≢true h)
-    positive false true true h = absurd (false≢true h)
-    positive false false true h = absurd (false≢true h)
-
-two-stated : (v w : List ℕ) (vs : List (List ℕ)) → folded number_step 0 (v ∷ w ∷ vs) ≡ bad
-unfolding folded
-two-stated v w vs = go (eqb (count_of v) 0) refl
+    go : (t : Bool) → once_of (state_after Unstated (cond t (Some (min (number v) most)) None)) ≡ cond t (Some (min (number v) most)) None
+    go true = refl
+    go false = refl
+number-says (v ∷ w ∷ vs) = go (count_of v)
   where
-    go : (t : Bool) → eqb (count_of v) 0 ≡ t → folded number_step (cond (not t) (count_of v) bad) (w ∷ vs) ≡ bad
-    go true e = stays_bad (w ∷ vs)
-    go false e = twice (count_of v) w vs (eqb-false (count_of v) 0 e)
-
--- "exactly once" and the number
-pub record Says (vs : List (List ℕ)) (s : ℕ) : Type 0 where
-  pub once_is : once vs ≡ stated_once s
-  pub number_is : once vs ≡ true → s ≡ min (stated vs) most
-
-pub number-says : (vs : List (List ℕ)) → Says vs (folded number_step 0 vs)
-unfolding folded
-number-says [] = record { once_is = refl; number_is = λ h. absurd (false≢true h) }
-number-says (v ∷ []) = go (is_count v) refl
-  where
-    go : (t : Bool) → is_count v ≡ t → Says (v ∷ []) (folded number_step 0 (v ∷ []))
-    go true h =
-        let e : folded number_step 0 (v ∷ []) ≡ count_of v = rw (ne_eqb (count_of v) 0 (count_some v h)) in
-        let l : count_of v < bad = omega (arith, count_is v h) in
-        rw e
-        (record {
-          once_is = h ∙ sym (rw (ne_eqb (count_of v) 0 (count_some v h), lt-ltb (count_of v) bad l));
-          number_is = λ _. count_is v h;
-        })
-    go false h =
-        let e : folded number_step 0 (v ∷ []) ≡ bad = rw (count_zero v h) in
-        rw e (record { once_is = h; number_is = λ y. absurd (false≢true (sym h ∙ y)) })
-number-says (v ∷ w ∷ vs) = go (two-stated v w vs)
-  where
-    go : folded number_step 0 (v ∷ w ∷ vs) ≡ bad → Says (v ∷ w ∷ vs) (folded number_step 0 (v ∷ w ∷ vs))
-    go e = rw e (record { once_is = refl; number_is = λ h. absurd (false≢true h) })
-
--- a field's number is never above `bad`
-count_small : (v : List ℕ) → count_of v ≤ most
-count_small v = go (is_count v)
-  where
-    go : (t : Bool) → cond t (min (number v) most) 0 ≤ most
-    go true = omega arith
-    go false = omega arith
-
-step_small : (s c : ℕ) → c ≤ most → state_after s c ≤ bad
-step_small s c h = go (eqb s 0 && not (eqb c 0))
-  where
-    go : (t : Bool) → cond t c bad ≤ bad
-    go true = omega (arith, h)
-    go false = omega arith
-
-pub number_small : (s : ℕ) (vs : List (List ℕ)) → s ≤ bad → folded number_step s vs ≤ bad
-unfolding folded
-number_small s [] h = h
-number_small s (v ∷ vs) h = number_small (number_step s v) vs (step_small s (count_of v) (count_small v))
+    go : (o : Option ℕ) → once_of (folded number_step (state_after (state_after Unstated o) (count_of w)) vs) ≡ None
+    go None = ap once_of (stays_bad vs)
+    go (Some n) = ap once_of (stays_bad vs)
 
 -- Tuple types: the type is RGB_ALPHA exactly where it was gathered so.
-abbrev pub tuple_step : ℕ → List ℕ → ℕ
+abbrev pub tuple_step : Option Tuple → List ℕ → Option Tuple
 tuple_step s v = tuple_after s (tuple_of v)
 
-stays_other : (vs : List (List ℕ)) → folded tuple_step 2 vs ≡ 2
+stays_other : (vs : List (List ℕ)) → folded tuple_step (Some Another) vs ≡ Some Another
 unfolding folded
 stays_other [] = refl
 stays_other (v ∷ vs) = stays_other vs
 
-two_types : (v w : List ℕ) (vs : List (List ℕ)) → folded tuple_step 0 (v ∷ w ∷ vs) ≡ 2
+two_types : (v w : List ℕ) (vs : List (List ℕ)) → folded tuple_step None (v ∷ w ∷ vs) ≡ Some Another
 unfolding folded
-two_types v w vs = go (eqb (tuple_of v) 1)
+two_types v w vs = go (tuple_of v)
   where
-    go : (t : Bool) → folded tuple_step (tuple_after (cond t 1 2) (tuple_of w)) vs ≡ 2
-    go true = stays_other vs
-    go false = stays_other vs
+    go : (o : Option Tuple) → folded tuple_step (tuple_after (tuple_after None o) (tuple_of w)) vs ≡ Some Another
+    go None = stays_other vs
+    go (Some RgbAlpha) = stays_other vs
+    go (Some Another) = stays_other vs
 
 -- a text with a space in it is none without
 no_space : (t m r : List ℕ) → any (λ b. eqb 32 b) r ≡ false → same (t ++ (32 ∷ m)) r ≡ false
@@ -170,15 +113,15 @@ no_32 : any (λ b. eqb 32 b) (text "RGB_ALPHA") ≡ false
 unfolding text any
 no_32 = refl
 
-pub tuple_says : (vs : List (List ℕ)) → eqb (folded tuple_step 0 vs) 1 ≡ same (joined vs) (text "RGB_ALPHA")
+pub tuple_says : (vs : List (List ℕ)) → is_rgb_alpha (folded tuple_step None vs) ≡ same (joined vs) (text "RGB_ALPHA")
 unfolding folded joined
 tuple_says [] = sym (no_type [] refl)
 tuple_says (v ∷ []) = go (empty v) refl (same v (text "RGB_ALPHA")) refl
   where
     go : (e : Bool) → empty v ≡ e → (t : Bool) → same v (text "RGB_ALPHA") ≡ t
-        → eqb (cond (eqb (cond e 0 (cond t 1 2)) 1) 1 2) 1 ≡ t
+        → is_rgb_alpha (tuple_after None (cond e None (cond t (Some RgbAlpha) (Some Another)))) ≡ t
     go true h true k = absurd (false≢true (sym (no_type v h) ∙ k))
     go true h false k = refl
     go false h true k = refl
     go false h false k = refl
-tuple_says (v ∷ w ∷ vs) = rw (two_types v w vs) (sym (no_space v (joined (w ∷ vs)) (text "RGB_ALPHA") no_32))
+tuple_says (v ∷ w ∷ vs) = ap is_rgb_alpha (two_types v w vs) ∙ sym (no_space v (joined (w ∷ vs)) (text "RGB_ALPHA") no_32)

@@ -5,10 +5,12 @@ pub mod Counts
 pub mod Lines
 pub mod Caps
 pub mod Gathers
+pub mod Keys
 pub mod Seen
 pub mod Tested
 pub mod Headers
 pub mod Sides
+pub mod Ones
 pub mod Copies
 pub mod Files
 pub mod Numerals

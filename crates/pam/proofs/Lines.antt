@@ -1,18 +1,19 @@
 -- The lines of a text, one at a time.
 use mathlib.Core.Path.{◌≡◌, refl, ap, sym, ◌∙◌}
-use mathlib.Core.Bool.{Bool, true, not, cond}
+use mathlib.Core.Bool.{Bool, true, false, not, cond}
 use mathlib.Core.List.{List, [], ◌∷◌, ◌++◌, append_assoc}
 use Prim.Native.Nat.{ℕ, suc, ◌+◌, ◌-◌, ◌<◌, ◌≤◌}
 use native.Mathlib.Omega.{arith}
-use native.Mathlib.Numerals.{add-one}
-use lib.Dec.{eqb}
-use lib.ListN.{length, get_or, take, drop, length-drop, take-append-drop}
-use lib.Seq.{take-suc, take_all, drop-cons, drop-drop, get_or-drop}
-use borrow.Author.Tests.{not-true, eq-eqb, ne_eqb}
+use native.Mathlib.Decide.{dec_lt}
+use lib.Dec.{eqb, ltb}
+use lib.ListN.{length, take, drop}
+use lib.Seq.{drop-drop}
+use borrow.Author.Tests.{not-true, lt-ltb, le-ltb}
+use Rattle.std.specs.Prelude.{Option, Some, None}
+use Rattle.std.specs.List.{position_or_len}
 use Rattle.rules.specs.Base.{all}
 use Rattle.rules.specs.Pam.{onto, lines, ended}
 use Rattle.rules.proofs.Ranges.{both}
-use Rattle.pam.proofs.Texts.{all_more}
 
 -- no newline
 abbrev pub plain : ℕ → Bool
@@ -26,14 +27,6 @@ lines-first (b ∷ d) s h =
     let p = both (plain b) (all plain d) h in
     rw (lines, not-true (eqb b 10) p.0) (ap (onto b) (lines-first d s p.1))
 
--- what no newline follows is none
-lines_none : (d : List ℕ) → all plain d ≡ true → lines d ≡ []
-unfolding all lines
-lines_none [] h = refl
-lines_none (b ∷ d) h =
-    let p = both (plain b) (all plain d) h in
-    rw (lines, not-true (eqb b 10) p.0) (ap (onto b) (lines_none d p.1))
-
 -- lines that were written are read again, whatever follows
 pub lines-ended : (ls : List (List ℕ)) (s : List ℕ) → all (all plain) ls ≡ true → lines (ended ls ++ s) ≡ ls ++ lines s
 unfolding all ended
@@ -42,41 +35,64 @@ lines-ended (l ∷ ls) s h =
     let p = both (all plain l) (all (all plain) ls) h in
     rw (append_assoc, lines-first l (ended ls ++ s) p.0, lines-ended ls s p.1)
 
--- A line of a file, which begins at `at` and goes to `i` at least.
-pub plain_none : (file : List ℕ) (at i : ℕ) → i ≡ at → all plain (take (i - at) (drop at file)) ≡ true
-unfolding all
-plain_none file at i h = let n : i - at ≡ 0 = omega arith in rw n
+-- a text's first newline, and the line before it
+abbrev newline : List ℕ → ℕ
+newline s = position_or_len (λ b. eqb b 10) s
 
-module _ (file : List ℕ) (at i : ℕ) (h : at ≤ i) (p : all plain (take (i - at) (drop at file)) ≡ true) where
-  from : i < length file → drop at file ≡ take (i - at) (drop at file) ++ (get_or file i 0 ∷ drop (i + 1) file)
-  from l =
-      let n : at + (i - at) ≡ i = omega arith in
-      let d : drop (i - at) (drop at file) ≡ get_or file i 0 ∷ drop (i + 1) file =
-      drop-drop (i - at) at file ∙ rw (n, drop-cons file i 0 l, add-one) in
-      sym (ap (λ m. take (i - at) (drop at file) ++ m) (sym d) ∙ take-append-drop (i - at) (drop at file))
+line_is : (s : List ℕ) → lines s ≡ cond (ltb (newline s) (length s)) (take (newline s) s ∷ lines (drop (newline s + 1) s)) []
+unfolding lines
+line_is [] = refl
+line_is (b ∷ s) = go (eqb b 10) (line_is s)
+  where
+    go : (t : Bool) → lines s ≡ cond (ltb (newline s) (length s)) (take (newline s) s ∷ lines (drop (newline s + 1) s)) []
+        → elim t [ true ↦ [] ∷ lines s | false ↦ onto b (lines s) ]
+        ≡ cond (ltb (cond (not t) (1 + newline s) 0) (suc (length s)))
+        (take (cond (not t) (1 + newline s) 0) (b ∷ s) ∷ lines (drop (cond (not t) (1 + newline s) 0 + 1) (b ∷ s)))
+        []
+    go true ih = let h : 0 < suc (length s) = omega arith in rw (lt-ltb 0 (suc (length s)) h)
+    go false ih = next (dec_lt (newline s) (length s))
+      where
+        one : 1 + newline s ≡ suc (newline s)
+        one = omega arith
 
-  -- a byte more of it
-  pub plain_more : i < length file → (get_or file i 0 ≡ 10 → ⊥) → all plain (take (i + 1 - at) (drop at file)) ≡ true
-  plain_more l e =
-      let n : i + 1 - at ≡ suc (i - at) = omega arith in
-      let k : i - at < length (drop at file) = omega (arith, length-drop at file) in
-      let a : at + (i - at) ≡ i = omega arith in
-      let b : get_or (drop at file) (i - at) 0 ≡ get_or file i 0 = get_or-drop at file (i - at) 0 ∙ ap (λ m. get_or file m 0) a in
-      rw (n, take-suc (drop at file) (i - at) 0 k, b)
-      (all_more plain (take (i - at) (drop at file)) (get_or file i 0) p (rw (ne_eqb (get_or file i 0) 10 e)))
+        next : Dec (newline s < length s)
+            → onto b (lines s)
+            ≡ cond (ltb (1 + newline s) (suc (length s))) (take (1 + newline s) (b ∷ s) ∷ lines (drop (1 + newline s + 1) (b ∷ s))) []
+        next (yes h) =
+            let k : suc (newline s) < suc (length s) = omega (arith, h) in
+            let more : suc (newline s) + 1 ≡ suc (newline s + 1) = omega arith in
+            ap (onto b) ih ∙ rw (lt-ltb _ _ h, one, more, lt-ltb _ _ k)
+        next (no h) =
+            let l : length s ≤ newline s = omega (arith, h) in
+            let k : suc (length s) ≤ suc (newline s) = omega (arith, h) in
+            ap (onto b) ih ∙ rw (le-ltb _ _ l, one, le-ltb _ _ k)
 
-  -- a newline ends it, and so does the file's end, but then it is none
-  abbrev found : List (List ℕ)
-  found = cond (eqb i (length file)) [] (take (i - at) (drop at file) ∷ lines (drop (i + 1) file))
+-- The line that begins a text, by where `position` finds its newline.
+module _ (s : List ℕ) (r : Option ℕ) (found : r ≡ cond (ltb (newline s) (length s)) (Some (newline s)) None) where
+  pub line_none : r ≡ None → lines s ≡ []
+  line_none n = go (dec_lt (newline s) (length s))
+    where
+      go : Dec (newline s < length s) → lines s ≡ []
+      go (yes h) = let e : None ≡ Some (newline s) = sym n ∙ found ∙ rw (lt-ltb _ _ h) in cc
+      go (no h) = let l : length s ≤ newline s = omega (arith, h) in line_is s ∙ rw (le-ltb _ _ l)
 
-  pub line_stop : i < length file → get_or file i 0 ≡ 10 → lines (drop at file) ≡ found
-  line_stop l e =
-      ap lines (from l ∙ ap (λ b. take (i - at) (drop at file) ++ (b ∷ drop (i + 1) file)) e)
-      ∙ lines-first (take (i - at) (drop at file)) (drop (i + 1) file) p
-      ∙ sym (rw (ne_eqb i (length file) (λ z. omega (arith, l, z))))
+  pub line_first : (k : ℕ) → r ≡ Some k → (k < length s) × (lines s ≡ take k s ∷ lines (drop (k + 1) s))
+  line_first k n = go (dec_lt (newline s) (length s))
+    where
+      go : Dec (newline s < length s) → (k < length s) × (lines s ≡ take k s ∷ lines (drop (k + 1) s))
+      go (yes h) =
+          let e : Some k ≡ Some (newline s) = sym n ∙ found ∙ rw (lt-ltb _ _ h) in
+          let i : k ≡ newline s = cc in
+          rw i (h, line_is s ∙ rw (lt-ltb _ _ h))
+      go (no h) =
+          let l : length s ≤ newline s = omega (arith, h) in
+          let e : Some k ≡ None = sym n ∙ found ∙ rw (le-ltb _ _ l) in
+          cc
 
-  pub line_none : i ≤ length file → length file ≤ i → lines (drop at file) ≡ found
-  line_none m l =
-      let k : length (drop at file) ≤ i - at = omega (arith, length-drop at file) in
-      let z : i ≡ length file = omega arith in
-      lines_none (drop at file) (rw (take_all (i - at) (drop at file) k) at p) ∙ sym (rw (eq-eqb i (length file) z))
+-- the same of a file's part from `at` on
+pub line_at : (file : List ℕ) (at k : ℕ) → lines (drop at file) ≡ take k (drop at file) ∷ lines (drop (k + 1) (drop at file))
+    → lines (drop at file) ≡ take (at + k - at) (drop at file) ∷ lines (drop (at + k + 1) file)
+line_at file at k e =
+    let n : at + k - at ≡ k = omega arith in
+    let m : at + k + 1 ≡ at + (k + 1) = omega arith in
+    e ∙ rw (n, m, drop-drop)

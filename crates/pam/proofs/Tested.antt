@@ -1,5 +1,5 @@
 -- The tests of reading, by what was gathered, are the rule's.
-use mathlib.Core.Path.{◌≡◌, refl, ap, ◌∙◌}
+use mathlib.Core.Path.{◌≡◌, refl, ap, sym, ◌∙◌}
 use mathlib.Core.Bool.{Bool, true, false, cond, not, ◌&&◌, ◌||◌}
 use mathlib.Core.List.{List, [], ◌∷◌}
 use Prim.Native.Nat.{ℕ, ◌+◌, ◌-◌, ◌≤◌}
@@ -7,6 +7,7 @@ use native.Mathlib.Omega.{arith}
 use lib.Dec.{eqb, ltb}
 use lib.ListN.{length, take, drop}
 use borrow.Author.Tests.{ltb-false}
+use Rattle.std.specs.Prelude.{Option, Some, None}
 use Rattle.rules.specs.Base.{over}
 use Rattle.rules.specs.Tile.{side_limit, sides_outside}
 use Rattle.rules.specs.Refusal.{◌if◌, first}
@@ -19,85 +20,88 @@ use Rattle.pam.proofs.Caps.{same-capped, above-capped, left_over}
 use Rattle.pam.proofs.Seen.{States, Seen}
 use Rattle.pam.proofs.Sides.{Within, within}
 
-module _ (x : Header) (h : RuleHeader) where
-  other_is : States x h → other_by x.stated ≡ other_tuples h
-  other_is s =
-      let d : eqb x.stated.depth 4 ≡ eqb h.depth 4 = ap (λ n. eqb n 4) s.depth ∙ same-capped h.depth 4 (omega arith) in
-      let m : eqb x.stated.maxval 255 ≡ eqb h.maxval 255 =
-      ap (λ n. eqb n 255) s.maxval ∙ same-capped h.maxval 255 (omega arith) in
+module _ (x : Header) (h : RuleHeader) (s : States x h) where
+  other_is : other_by x ≡ other_tuples h
+  other_is =
+      let d : eqb x.depth 4 ≡ eqb h.depth 4 = ap (λ n. eqb n 4) s.depth ∙ same-capped h.depth 4 (omega arith) in
+      let m : eqb x.maxval 255 ≡ eqb h.maxval 255 = ap (λ n. eqb n 255) s.maxval ∙ same-capped h.maxval 255 (omega arith) in
       λ i. not (d i && m i && s.tuple i)
 
-  sides_are : States x h → sides_outside x.stated.width x.stated.height ≡ sides_outside h.width h.height
-  sides_are s =
+  sides_are : sides_outside x.width x.height ≡ sides_outside h.width h.height
+  sides_are =
       let w = ap (ltb side_limit) s.width ∙ above-capped side_limit h.width (omega arith) in
       let e = ap (ltb side_limit) s.height ∙ above-capped side_limit h.height (omega arith) in
       λ i. w i || e i
 
   -- sides within the limit are those that the header states
-  width_is : States x h → Within h.width h.height → x.stated.width ≡ h.width
-  width_is s w = s.width ∙ omega (arith, w.width)
+  width_is : Within h.width h.height → x.width ≡ h.width
+  width_is w = s.width ∙ omega (arith, w.width)
 
-  height_is : States x h → Within h.width h.height → x.stated.height ≡ h.height
-  height_is s w = s.height ∙ omega (arith, w.height)
+  height_is : Within h.width h.height → x.height ≡ h.height
+  height_is w = s.height ∙ omega (arith, w.height)
 
-module _ (file picture : List ℕ) (x : Header) (h : RuleHeader) (k : Seen x h) (l : x.size ≤ length file) where
+  bytes_are : Within h.width h.height → texel_bytes x.width x.height ≡ texel_bytes h.width h.height
+  bytes_are w = λ i. texel_bytes (width_is w i) (height_is w i)
+
+-- a broken header is refused before all else
+pub broken_first : (file picture : List ℕ) (h : RuleHeader) → h.broken ≡ true → 13 ≡ first (pam_read_tests h file picture)
+unfolding first
+broken_first file picture h e = rw e
+
+module _ (file picture : List ℕ) (x : Header) (h : RuleHeader) (b : h.broken ≡ false) (s : States x h) (l : x.size ≤ length file) where
   abbrev gathered : ℕ
-  gathered = texel_bytes x.stated.width x.stated.height
+  gathered = texel_bytes x.width x.height
 
   abbrev stated : ℕ
   stated = texel_bytes h.width h.height
 
   -- the tests after the sides' own, where that passes
-  last_tests : States x h → (t : Bool) → sides_outside h.width h.height ≡ t
+  last_tests : (t : Bool) → sides_outside h.width h.height ≡ t
       → first ((2 if t) ∷ (15 if ltb (length file - x.size) gathered) ∷ (6 if ltb (length picture) gathered) ∷ [])
       ≡ first ((2 if t) ∷ (15 if ltb (length file) (h.size + stated)) ∷ (6 if ltb (length picture) stated) ∷ [])
   unfolding first
-  last_tests s true e = refl
-  last_tests s false e =
-      let w = within h.width h.height e in
-      let n : gathered ≡ stated = λ i. texel_bytes (width_is x h s w i) (height_is x h s w i) in
+  last_tests true e = refl
+  last_tests false e =
+      let n = bytes_are x h s (within h.width h.height e) in
       let left : ltb (length file - x.size) stated ≡ ltb (length file) (h.size + stated) =
       left_over (length file) x.size stated l ∙ (λ j. ltb (length file) (s.size j + stated)) in
       rw (n, left)
 
-  pub tested : first (read_tests x (length file) (length picture)) ≡ first (pam_read_tests h file picture)
+  pub tested_whole : first (read_tests x (length file) (length picture)) ≡ first (pam_read_tests h file picture)
   unfolding first
-  tested = rw k.broken_is (go h.broken refl)
-    where
-      go : (t : Bool) → h.broken ≡ t
-          → first
-          ((13 if t)
-          ∷ (14 if other_by x.stated)
-          ∷ (2 if sides_outside x.stated.width x.stated.height)
-          ∷ (15 if ltb (length file - x.size) gathered)
-          ∷ (6 if ltb (length picture) gathered)
-          ∷ [])
-          ≡ first ((13 if t) ∷ (14 if other_tuples h) ∷ (2 if sides_outside h.width h.height)
-          ∷ (15 if ltb (length file) (h.size + stated)) ∷ (6 if ltb (length picture) stated) ∷ [])
-      go true e = refl
-      go false e =
-          let s = k.states e in
-          let last = last_tests s (sides_outside h.width h.height) refl in
-          rw (other_is x h s, sides_are x h s) (ap (λ n. cond (other_tuples h) 14 n) last)
+  tested_whole =
+      let last = last_tests (sides_outside h.width h.height) refl in
+      rw (b, other_is x h s, sides_are x h s) (ap (λ n. cond (other_tuples h) 14 n) last)
+
+-- the first refusal, by what was gathered of the file
+abbrev pub refused_by : List ℕ → List ℕ → Option Header → ℕ
+refused_by file picture None = 13
+refused_by file picture (Some x) = first (read_tests x (length file) (length picture))
+
+-- No test can tell what was gathered from what the header says.
+pub tested : (file picture : List ℕ) (o : Option Header) (h : RuleHeader) → Seen o h → ((x : Header) → o ≡ Some x → x.size ≤ length file)
+    → refused_by file picture o ≡ first (pam_read_tests h file picture)
+tested file picture None h k l = broken_first file picture h (sym k.broken_is)
+tested file picture (Some x) h k l = tested_whole file picture x h (sym k.broken_is) (k.states x refl) (l x refl)
 
 -- nothing is refused
 pub record Taken (x : Header) (h : RuleHeader) (file picture : List ℕ) : Type 0 where
-  pub width : x.stated.width ≡ h.width
-  pub height : x.stated.height ≡ h.height
+  pub within : Within x.width x.height
+  pub width : x.width ≡ h.width
+  pub height : x.height ≡ h.height
   pub size : x.size ≡ h.size
-  pub texels : x.size + texel_bytes x.stated.width x.stated.height ≤ length file
-  pub room : texel_bytes x.stated.width x.stated.height ≤ length picture
+  pub texels : x.size + texel_bytes x.width x.height ≤ length file
+  pub room : texel_bytes x.width x.height ≤ length picture
 
-pub taken : (file picture : List ℕ) (x : Header) (h : RuleHeader) → Seen x h → first (pam_read_tests h file picture) ≡ 0
+pub taken : (file picture : List ℕ) (x : Header) (h : RuleHeader) → States x h → first (pam_read_tests h file picture) ≡ 0
     → Taken x h file picture
 unfolding Passed
-taken file picture x h k e =
+taken file picture x h s e =
     let p = passed (pam_read_tests h file picture) (numbered (pam_read_tests h file picture) refl) e in
-    let s = k.states p.0 in
     let w = within h.width h.height p.1.1.0 in
-    let n : texel_bytes x.stated.width x.stated.height ≡ texel_bytes h.width h.height =
-    λ i. texel_bytes (width_is x h s w i) (height_is x h s w i) in
+    let n = bytes_are x h s w in
     record {
+      within = record { width = rw (width_is x h s w) w.width; height = rw (height_is x h s w) w.height };
       width = width_is x h s w;
       height = height_is x h s w;
       size = s.size;

@@ -1,14 +1,14 @@
 -- Texts compared, and what holds of all their bytes, a byte at a time.
-use mathlib.Core.Path.{◌≡◌, refl, ap, ◌∙◌}
-use mathlib.Core.Bool.{Bool, true, false, ◌&&◌}
+use mathlib.Core.Path.{◌≡◌, refl, ap, sym, ◌∙◌}
+use mathlib.Core.Bool.{Bool, true, false, false≢true, ◌&&◌}
 use mathlib.Core.List.{List, [], ◌∷◌, ◌++◌}
-use Prim.Native.Nat.{ℕ, zero, suc, ◌+◌, ◌<◌, ◌≤◌}
+use Prim.Native.Nat.{ℕ, zero, suc, ◌<◌}
 use native.Mathlib.Omega.{arith}
-use native.Mathlib.Numerals.{add-one}
 use lib.Dec.{eqb}
-use lib.ListN.{length, get_or, take, drop, length-take, drop_of_length-le}
-use lib.Seq.{drop-cons}
-use borrow.Author.Tests.{eq-eqb, ne_eqb}
+use Rattle.std.specs.Prelude.{◌==◌}
+use lib.ListN.{length, get_or, take}
+use borrow.Author.Tests.{eqb-true, eqb-false, eq-eqb, ne_eqb}
+use Rattle.std.specs.Cmp.Lexicographic.{pointwise}
 use Rattle.rules.specs.Base.{all, empty, same}
 use Rattle.rules.proofs.Ranges.{both}
 
@@ -33,30 +33,44 @@ all-not f [] i h e = absurd (omega arith)
 all-not f (a ∷ s) zero h e = rw e
 all-not f (a ∷ s) (suc i) h e = ap (λ (r : Bool). f a && r) (all-not f s i (omega arith) e) ∙ and_false (f a)
 
-pub other_length : (s t : List ℕ) → (length s ≡ length t → ⊥) → same s t ≡ false
+-- `==` of the texts' bytes
+pub bytes_same : (s t : List ℕ) → pointwise eqb s t ≡ same s t
 unfolding same
-other_length [] [] h = absurd (h refl)
-other_length [] (b ∷ t) h = refl
-other_length (a ∷ s) [] h = refl
-other_length (a ∷ s) (b ∷ t) h = ap (λ (r : Bool). eqb a b && r) (other_length s t (λ e. h (ap suc e))) ∙ and_false (eqb a b)
+bytes_same [] [] = refl
+bytes_same [] (b ∷ t) = refl
+bytes_same (a ∷ s) [] = refl
+bytes_same (a ∷ s) (b ∷ t) = ap (λ (r : Bool). eqb a b && r) (bytes_same s t)
 
-module _ (s t : List ℕ) (i : ℕ) (h : i < length s) (k : i < length t) where
-  pub same_more : get_or s i 0 ≡ get_or t i 0 → same (drop i s) (drop i t) ≡ same (drop (i + 1) s) (drop (i + 1) t)
-  unfolding same
-  same_more e = rw (add-one, drop-cons s i 0 h, drop-cons t i 0 k, eq-eqb (get_or s i 0) (get_or t i 0) e)
-
-  pub same_stop : (get_or s i 0 ≡ get_or t i 0 → ⊥) → same (drop i s) (drop i t) ≡ false
-  unfolding same
-  same_stop e = rw (drop-cons s i 0 h, drop-cons t i 0 k, ne_eqb (get_or s i 0) (get_or t i 0) e)
-
-pub same_end : (s t : List ℕ) (i : ℕ) → length s ≤ i → length t ≤ i → same (drop i s) (drop i t) ≡ true
+-- what `starts_with` answers
+bytes_turned : (s t : List ℕ) → pointwise eqb s t ≡ same t s
 unfolding same
-same_end s t i h k = rw (drop_of_length-le s h, drop_of_length-le t k)
+bytes_turned [] [] = refl
+bytes_turned [] (b ∷ t) = refl
+bytes_turned (a ∷ s) [] = refl
+bytes_turned (a ∷ s) (b ∷ t) = λ i. turned i && bytes_turned s t i
+  where
+    turned : eqb a b ≡ eqb b a
+    turned = go (eqb b a) refl
+      where
+        go : (r : Bool) → eqb b a ≡ r → eqb a b ≡ r
+        go true e = eq-eqb a b (sym (eqb-true b a e))
+        go false e = ne_eqb a b (λ k. eqb-false b a e (sym k))
 
-pub empty-length : (s : List ℕ) → eqb (length s) 0 ≡ empty s
-empty-length [] = refl
-empty-length (b ∷ s) = ne_eqb (suc (length s)) 0 (λ e. omega arith)
+pub starts_same : (p s : List ℕ) → pointwise eqb p (take (length p) s) ≡ same (take (length p) s) p
+starts_same p s = bytes_turned p (take (length p) s)
 
--- a text with fewer bytes than are taken of it
-pub take_short : (n : ℕ) (s : List ℕ) (m : ℕ) → length s < m → length (take n s) ≡ m → ⊥
-take_short n s m h e = omega (arith, length-take n s, e)
+pub same_is : (s t : List ℕ) → same s t ≡ true → s ≡ t
+unfolding same
+same_is [] [] h = refl
+same_is [] (b ∷ t) h = absurd (false≢true h)
+same_is (a ∷ s) [] h = absurd (false≢true h)
+same_is (a ∷ s) (b ∷ t) h =
+    let p = both (eqb a b) (same s t) h in
+    let e : a ≡ b = eqb-true a b p.0 in
+    let r : s ≡ t = same_is s t p.1 in
+    cc
+
+-- what `is_empty` answers
+pub none-empty : (s : List ℕ) (t : Bool) → t ≡ (length s == 0) → empty s ≡ t
+none-empty [] t h = sym h
+none-empty (b ∷ s) t h = sym (h ∙ ne_eqb (suc (length s)) 0 (λ e. omega arith))

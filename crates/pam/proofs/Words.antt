@@ -1,69 +1,85 @@
--- White space and words, a byte at a time.
-use mathlib.Core.Path.{◌≡◌, refl, ap, sym, ◌∙◌}
-use mathlib.Core.Bool.{Bool, true, false}
+-- White space and words: the front of a text, what follows it, and a text without its end.
+use mathlib.Core.Path.{◌≡◌, refl, ap, ◌∙◌}
+use mathlib.Core.Bool.{Bool, true, false, cond, not}
 use mathlib.Core.List.{List, [], ◌∷◌, ◌++◌}
-use Prim.Native.Nat.{ℕ, zero, suc, ◌+◌, ◌-◌, ◌<◌, ◌≤◌}
+use Prim.Native.Nat.{ℕ, suc, ◌+◌, ◌-◌, ◌<◌, ◌≤◌}
 use native.Mathlib.Omega.{arith}
-use native.Mathlib.Numerals.{add-one}
-use lib.ListN.{length, get_or, take, drop, drop_of_length-le}
-use lib.Seq.{take-suc, drop-cons, append_snoc}
-use Rattle.rules.specs.Pam.{white, front, behind, before, cut}
+use native.Mathlib.Decide.{dec_lt}
+use lib.Dec.{ltb}
+use lib.ListN.{length, take, drop, length-drop}
+use lib.Seq.{take_all}
+use borrow.Author.Tests.{lt-ltb, le-ltb}
+use Rattle.std.specs.Prelude.{Option, Some, None, unwrap_or}
+use Rattle.std.specs.List.{position_or_len}
+use Rattle.std.proofs.lemmas.List.Sums.{prefix_len-le-length}
+use Rattle.rules.specs.Pam.{white, solid, front, behind, before, cut}
 use Rattle.pam.proofs.Texts.{and_false, snoc_some}
 
--- The front of a text, by a test of its bytes, from place i on.
-module _ (f : ℕ → Bool) (s : List ℕ) (i : ℕ) where
-  -- a byte more, and one that ends it
-  module _ (h : i < length s) where
-    pub behind_more : f (get_or s i 0) ≡ true → behind f (drop i s) ≡ behind f (drop (i + 1) s)
-    unfolding behind
-    behind_more e = rw (add-one, drop-cons s i 0 h, behind, e)
+pub not_solid : (b : ℕ) → white b ≡ not (solid b)
+not_solid b = go (white b)
+  where
+    go : (t : Bool) → t ≡ not (not t)
+    go true = refl
+    go false = refl
 
-    pub behind_stop : f (get_or s i 0) ≡ false → behind f (drop i s) ≡ drop i s
-    unfolding behind
-    behind_stop e = rw (drop-cons s i 0 h, behind, e)
-
-    pub front-more : f (get_or s i 0) ≡ true → take i s ++ front f (drop i s) ≡ take (i + 1) s ++ front f (drop (i + 1) s)
-    unfolding front
-    front-more e = rw (add-one, drop-cons s i 0 h, front, e, take-suc s i 0 h, ← append_snoc)
-
-    pub front_stop : f (get_or s i 0) ≡ false → front f (drop i s) ≡ []
-    unfolding front
-    front_stop e = rw (drop-cons s i 0 h, front, e)
-
-  -- nothing is left
-  pub behind_end : length s ≤ i → behind f (drop i s) ≡ drop i s
-  unfolding behind
-  behind_end h = rw (drop_of_length-le s h)
-
-  pub front_end : length s ≤ i → front f (drop i s) ≡ []
+-- The first byte of another kind, as `position` finds it.
+module _ (f stop : ℕ → Bool) (other : (b : ℕ) → f b ≡ not (stop b)) where
+  front_to : (s : List ℕ) → take (position_or_len stop s) s ≡ front f s
   unfolding front
-  front_end h = rw (drop_of_length-le s h)
+  front_to [] = refl
+  front_to (b ∷ s) = rw (front, other b) (go (stop b) (front_to s))
+    where
+      go : (t : Bool) → take (position_or_len stop s) s ≡ front f s
+          → take (cond (not t) (1 + position_or_len stop s) 0) (b ∷ s) ≡ elim (not t) [ true ↦ b ∷ front f s | false ↦ [] ]
+      go true ih = refl
+      go false ih = let e : 1 + position_or_len stop s ≡ suc (position_or_len stop s) = omega arith in rw e (ap (λ (l : List ℕ). b ∷ l) ih)
+
+  behind_from : (s : List ℕ) → drop (position_or_len stop s) s ≡ behind f s
+  unfolding behind
+  behind_from [] = refl
+  behind_from (b ∷ s) = rw (behind, other b) (go (stop b) (behind_from s))
+    where
+      go : (t : Bool) → drop (position_or_len stop s) s ≡ behind f s
+          → drop (cond (not t) (1 + position_or_len stop s) 0) (b ∷ s) ≡ elim (not t) [ true ↦ behind f s | false ↦ b ∷ s ]
+      go true ih = refl
+      go false ih = let e : 1 + position_or_len stop s ≡ suc (position_or_len stop s) = omega arith in rw e ih
+
+  module _ (s : List ℕ) (r : Option ℕ) (k : ℕ)
+      (found : r ≡ cond (ltb (position_or_len stop s) (length s)) (Some (position_or_len stop s)) None)
+      (place : k ≡ unwrap_or r (length s)) where
+    there : k ≡ position_or_len stop s
+    there = place ∙ ap (λ (o : Option ℕ). unwrap_or o (length s)) found ∙ go (dec_lt (position_or_len stop s) (length s))
+      where
+        go : Dec (position_or_len stop s < length s)
+            → unwrap_or (cond (ltb (position_or_len stop s) (length s)) (Some (position_or_len stop s)) None) (length s)
+            ≡ position_or_len stop s
+        go (yes h) = rw (lt-ltb _ _ h)
+        go (no h) =
+            let m : position_or_len stop s ≤ length s = prefix_len-le-length (λ b. not (stop b)) s in
+            let l : length s ≤ position_or_len stop s = omega (arith, h) in
+            rw (le-ltb _ _ l) (omega arith)
+
+    pub front_is : take k s ≡ front f s
+    front_is = rw there (front_to s)
+
+    pub behind_is : drop k s ≡ behind f s
+    behind_is = rw there (behind_from s)
+
+    pub part_is : take (length s - k) (drop k s) ≡ behind f s
+    part_is = take_all (length s - k) (drop k s) (omega (arith, length-drop k s)) ∙ behind_is
 
 -- a byte more at the end: white space is cut, another stays with all before it
-cut-white : (l : List ℕ) (b : ℕ) → white b ≡ true → cut (l ++ (b ∷ [])) ≡ cut l
+pub cut-white : (l : List ℕ) (b : ℕ) → white b ≡ true → cut (l ++ (b ∷ [])) ≡ cut l
 unfolding cut
 cut-white [] b e = rw e
 cut-white (a ∷ l) b e = ap (before a) (cut-white l b e)
 
-cut-kept : (l : List ℕ) (b : ℕ) → white b ≡ false → cut (l ++ (b ∷ [])) ≡ l ++ (b ∷ [])
+pub cut-kept : (l : List ℕ) (b : ℕ) → white b ≡ false → cut (l ++ (b ∷ [])) ≡ l ++ (b ∷ [])
 unfolding cut
 cut-kept [] b e = rw e
 cut-kept (a ∷ l) b e = ap (before a) (cut-kept l b e) ∙ rw (snoc_some l b, and_false (white a))
 
-module _ (s : List ℕ) (i : ℕ) (h : 0 < i) (m : i ≤ length s) where
-  one_more : take i s ≡ take (i - 1) s ++ (get_or s (i - 1) 0 ∷ [])
-  one_more =
-      let e : i ≡ suc (i - 1) = omega arith in
-      let l : i - 1 < length s = omega arith in
-      ap (λ (k : ℕ). take k s) e ∙ take-suc s (i - 1) 0 l
-
-  pub cut-more : white (get_or s (i - 1) 0) ≡ true → cut (take i s) ≡ cut (take (i - 1) s)
-  cut-more e = ap cut one_more ∙ cut-white (take (i - 1) s) (get_or s (i - 1) 0) e
-
-  pub cut_stop : white (get_or s (i - 1) 0) ≡ false → cut (take i s) ≡ take i s
-  cut_stop e = ap cut one_more ∙ cut-kept (take (i - 1) s) (get_or s (i - 1) 0) e ∙ sym one_more
-
-pub cut_none : (s : List ℕ) (i : ℕ) → i ≤ 0 → cut (take i s) ≡ take i s
+pub cut_none : (l : List ℕ) → length l ≡ 0 → cut l ≡ l
 unfolding cut
-cut_none s zero h = refl
-cut_none s (suc i) h = absurd (omega arith)
+cut_none [] e = refl
+cut_none (b ∷ l) e = absurd (omega (arith, e))

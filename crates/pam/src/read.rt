@@ -5,8 +5,9 @@ ghost use Rattle.rules.specs.Pam.{pam_read_call};
 ghost use Rattle.rdp.specs.View.{size_answered};
 
 use crate::header::read_header;
-use crate::refused::{read_refusal, texel_bytes};
-use rdp::answer::SizeAnswer;
+use crate::refused::{check_read, texel_bytes};
+use rdp::answer::Size;
+use rdp::refusal::Refusal;
 
 // The `count` bytes of the file from `start` on, over the picture's front.
 fn copy_texels(file: &[u8], start: usize, count: usize, picture: &mut [u8])
@@ -19,25 +20,14 @@ fn copy_texels(file: &[u8], start: usize, count: usize, picture: &mut [u8])
 }
 
 // The picture in a file: its texels at the front of `picture`, and its size. Bytes after the texels are not read.
-pub fn read_pam(file: &[u8], picture: &mut [u8]) -> SizeAnswer
+pub fn read_pam(file: &[u8], picture: &mut [u8]) -> Result<Size, Refusal>
     ensures { size_answered result (picture.new ∷ []) ≡ pam_read_call file.now picture.old }
 {
-    let header = read_header(file);
-    let refusal = read_refusal(header, file.len(), picture.len());
-    if refusal != 0 {
-        return SizeAnswer {
-            refusal,
-            width: 0,
-            height: 0,
-        };
-    }
-    let width = header.stated.width;
-    let height = header.stated.height;
+    let header = read_header(file).ok_or(Refusal::Header)?;
+    check_read(header, file.len(), picture.len())?;
+    let width = header.width;
+    let height = header.height;
     let count = texel_bytes(width, height);
     copy_texels(file, header.size, count, picture);
-    SizeAnswer {
-        refusal: 0,
-        width,
-        height,
-    }
+    Ok(Size { width, height })
 }

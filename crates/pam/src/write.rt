@@ -5,9 +5,9 @@ ghost use Rattle.rules.specs.Pam.{pam_header, pam_write_call};
 ghost use Rattle.rdp.specs.View.{answered};
 ghost use Rattle.pam.specs.Tests.{header_most};
 
-use crate::refused::{texel_bytes, write_refusal};
+use crate::refused::{check_write, texel_bytes};
 use decimal::number::put_number;
-use rdp::answer::Answer;
+use rdp::refusal::Refusal;
 
 // The bytes of the longest header: 63, and two numbers of ten digits.
 const HEADER_MOST: usize = 63 + 2 * 10;
@@ -31,13 +31,13 @@ fn put_header(width: u32, height: u32, out: &mut [u8]) -> usize
     ensures out_after { out.new ≡ over (pam_header width height) out.old }
 {
     let at = put_part(b"P7\nWIDTH ", out, 0);
-    let wide = put_number(width, b'\n', out, at);
-    let at = put_part(b"HEIGHT ", out, wide.end);
-    let high = put_number(height, b'\n', out, at);
+    let at = put_number(width, b'\n', out, at).unwrap();
+    let at = put_part(b"HEIGHT ", out, at);
+    let at = put_number(height, b'\n', out, at).unwrap();
     put_part(
         b"DEPTH 4\nMAXVAL 255\nTUPLTYPE RGB_ALPHA\nENDHDR\n",
         out,
-        high.end,
+        at,
     )
 }
 
@@ -53,20 +53,14 @@ fn put_file(header: &[u8], picture: &[u8], count: usize, file: &mut [u8]) -> usi
 }
 
 // A picture as a file at the front of `file`. The count of its bytes is answered.
-pub fn write_pam(width: u32, height: u32, picture: &[u8], file: &mut [u8]) -> Answer
+pub fn write_pam(width: u32, height: u32, picture: &[u8], file: &mut [u8]) -> Result<u32, Refusal>
     ensures { answered result (file.new ∷ [])
         ≡ pam_write_call width height picture.now file.old }
 {
     let mut header = [0u8; HEADER_MOST];
     let size = put_header(width, height, &mut header);
-    let refusal = write_refusal(width, height, picture, size, file);
-    if refusal != 0 {
-        return Answer { refusal, count: 0 };
-    }
+    check_write(width, height, picture, size, file)?;
     let count = texel_bytes(width, height);
     let end = put_file(&header[..size], picture, count, file);
-    Answer {
-        refusal: 0,
-        count: end as u32,
-    }
+    Ok(end as u32)
 }

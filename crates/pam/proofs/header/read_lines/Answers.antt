@@ -1,43 +1,32 @@
--- `pam::header::read_lines` reads a line a turn, up to the ENDHDR line or the end. Assumes nothing.
+-- `pam::header::read_lines` reads a line a turn, up to the ENDHDR line. Assumes nothing.
 use mathlib.Core.Path.{ap, sym, ◌∙◌}
-use Prim.Native.Nat.{◌+◌, ◌<◌}
+use Prim.Native.Nat.{◌+◌}
 use native.Mathlib.Omega.{arith}
-use lib.ListN.{length, drop}
-use borrow.Author.Rules.{rules}
+use lib.ListN.{drop}
 use Rattle.rules.specs.Pam.{lines}
 use Rattle.pam.specs.Gather.{noted, read_from}
-use Rattle.pam.proofs.Headers.{read_none, read_end, read_next, read_done}
+use Rattle.pam.proofs.Headers.{read_none, read_end, read_next}
+use Rattle.pam.proofs.Keys.{is_endhdr, end_is, was_end}
 use Rattle.pam.proofs.header.read_lines.Goals as goal
 
-pub returns-then-end-file-clause-value : goal.returns-then-end-file-clause-value
-returns-then-end-file-clause-value c =
-    let e = c.line_end-end in
-    let l = c.loop-at in
-    let f = e.ensures in
-    sym (l.invariant.1 ∙ read_none _ l.at e.result l.stated f.not_before f.within f.one_line c.if-end-file.true)
+pub returns-in_err-end-clause-value : goal.returns-in_err-end-clause-value
+returns-in_err-end-clause-value c =
+    c.from_residual.ensures ∙ sym (c.loop-end.invariant.1 ∙ read_none c.loop-end.at c.loop-end.stated _ c.in_err-end.ensures)
 
-pub returns-then-line-clause-value : goal.returns-then-line-clause-value
-returns-then-line-clause-value c =
-    let e = c.line_end-end in
-    let l = c.loop-at in
-    let f = e.ensures in
-    let inside : e.result < length c.args.file.now = omega (arith, f.within, c.if-end-file.false) in
-    let last = sym (ap (λ r. r.keyword.endhdr) c.read_line-line.ensures) ∙ c.if-line.true in
-    sym (l.invariant.1 ∙ read_end _ l.at e.result l.stated f.not_before f.within f.one_line inside last)
+pub returns-then-eq-clause-value : goal.returns-then-eq-clause-value
+returns-then-eq-clause-value c =
+    let l = c.loop-end in
+    let f = c.in_ok-end.ensures in
+    let last = sym (end_is _) ∙ sym (ap (λ r. is_endhdr r.keyword) c.read_line-line.ensures) ∙ was_end _ c.if-eq.ensures in
+    c.whole.ensures ∙ sym (l.invariant.1 ∙ read_end _ l.at c.in_ok-end.end l.stated f.0 f.1 f.2 last)
 
-pub loop-at-preserved : goal.loop-at-preserved
-loop-at-preserved c =
-    let e = c.line_end-end in
-    let l = c.loop-at in
+pub loop-end-preserved : goal.loop-end-preserved
+loop-end-preserved c =
+    let l = c.loop-end in
     let file = c.args.file.now in
-    let f = e.ensures in
-    let inside : e.result < length file = omega (arith, f.within, c.if-end-file.false) in
-    let more = sym (ap (λ r. r.keyword.endhdr) c.read_line-line.ensures) ∙ c.if-line.false in
-    let next = read_next _ l.at e.result l.stated f.not_before f.within f.one_line inside more in
+    let end = c.in_ok-end.end in
+    let f = c.in_ok-end.ensures in
+    let more = sym (end_is _) ∙ sym (ap (λ r. is_endhdr r.keyword) c.read_line-line.ensures) ∙ was_end _ c.if-eq.ensures in
+    let next = read_next _ l.at end l.stated f.0 f.1 f.2 more in
     let state = sym (c.note_line-stated.ensures ∙ ap (noted l.stated) c.read_line-line.ensures) in
-    (search rules, l.invariant.1 ∙ next ∙ ap (λ s. read_from (e.result + 1) s (lines (drop (e.result + 1) file))) state)
-
-pub returns-clause-value : goal.returns-clause-value
-returns-clause-value c =
-    let l = c.loop-at in
-    sym (l.invariant.1 ∙ read_done _ l.at l.stated c.loop-at-test.false)
+    (omega (arith, f.1), l.invariant.1 ∙ next ∙ ap (λ s. read_from (end + 1) s (lines (drop (end + 1) file))) state)

@@ -1,16 +1,13 @@
 -- `pam::line::tuple_of` compares with the one type. Assumes nothing.
-use mathlib.Core.Path.{sym, ◌∙◌}
-use borrow.Author.Tests.{ne_eqb}
+use mathlib.Core.Path.{sym}
 use Rattle.rules.specs.Pam.{text}
-use Rattle.pam.proofs.Texts.{empty-length}
+use Rattle.pam.proofs.Texts.{none-empty}
 use Rattle.pam.proofs.line.tuple_of.Goals as goal
 
 pub returns-then-is_same : goal.returns-then-is_same
 unfolding text
-returns-then-is_same c =
-    rw (sym (empty-length c.args.value.now) ∙ ne_eqb _ 0 c.if-value-eq0.false, sym c.is_same.ensures ∙ c.if-is_same.true)
+returns-then-is_same c = rw (none-empty _ _ c.if-is_empty.ensures, sym c.if-is_same.ensures)
 
 pub returns-else-is_same : goal.returns-else-is_same
 unfolding text
-returns-else-is_same c =
-    rw (sym (empty-length c.args.value.now) ∙ ne_eqb _ 0 c.if-value-eq0.false, sym c.is_same.ensures ∙ c.if-is_same.false)
+returns-else-is_same c = rw (none-empty _ _ c.if-is_empty.ensures, sym c.if-is_same.ensures)

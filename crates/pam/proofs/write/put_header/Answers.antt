@@ -7,36 +7,52 @@ use lib.ListN.{length}
 use Rattle.rules.specs.Base.{over}
 use Rattle.rules.specs.Lister.{number_text}
 use Rattle.rules.specs.Pam.{text}
-use Rattle.decimal.proofs.Texts.{Put, number_put}
+use Rattle.decimal.proofs.Texts.{Put, number_ok, number_put}
 use Rattle.decimal.proofs.Writes.{wrote_none, wrote_more}
 use Rattle.pam.proofs.Files.{header_parts_lem, header_short}
-use Rattle.pam.proofs.write.put_header.Goals.{After-put_number-high, After-put_number-wide}
+use Rattle.pam.proofs.write.put_header.Goals.{After-unwrap-at, After-unwrap-at-2}
 use Rattle.pam.proofs.write.put_header.Goals as goal
 
--- what the numbers leave, and where they end
-wide : (c : After-put_number-wide)
-    → Put c.args.width 10 c.put_part-at.new.out c.put_part-at.result c.put_number-wide.new.out c.put_number-wide.result.end
-wide c = number_put _ 10 _ _ (omega (arith, c.put_part-at.ensures.value)) c.put_number-wide.ensures
+pub unwrap-at-requires : goal.unwrap-at-requires
+unwrap-at-requires c =
+    number_ok c.args.width 10 c.put_part-at.new.out c.put_part-at.result _ c.put_number.new.out (omega (
+      arith,
+      c.put_part-at.ensures.value,
+    )) c.put_number.ensures
 
-near : (c : After-put_number-wide) → c.put_number-wide.result.end ≤ 20
+-- what the numbers leave, and where they end
+wide : (c : After-unwrap-at)
+    → Put c.args.width 10 c.put_part-at.new.out c.put_part-at.result c.put_number.new.out c.unwrap-at.result
+wide c = number_put _ 10 _ _ (omega (arith, c.put_part-at.ensures.value)) c.put_number.ensures c.unwrap-at.ensures
+
+near : (c : After-unwrap-at) → c.unwrap-at.result ≤ 20
 near c = omega (arith, (wide c).near, c.put_part-at.ensures.value)
 
-high : (c : After-put_number-high)
-    → Put c.args.height 10 c.put_part-at-2.new.out c.put_part-at-2.result c.put_number-high.new.out c.put_number-high.result.end
-high c =
-    let n = near (goal.at.After-put_number-high c).After-put_number-wide in
-    number_put _ 10 _ _ (omega (arith, n, c.put_part-at-2.ensures.value)) c.put_number-high.ensures
+pub put_part-at-requires-2 : goal.put_part-at-requires-2
+put_part-at-requires-2 c = omega (arith, near (goal.at.put_part-at-requires-2 c).After-unwrap-at)
 
-near-2 : (c : After-put_number-high) → c.put_number-high.result.end ≤ 38
+pub unwrap-at-requires-2 : goal.unwrap-at-requires-2
+unwrap-at-requires-2 c =
+    let n = near (goal.at.unwrap-at-requires-2 c).After-unwrap-at in
+    number_ok c.args.height 10 c.put_part-at-2.new.out c.put_part-at-2.result _ c.put_number-2.new.out (omega (
+      arith,
+      n,
+      c.put_part-at-2.ensures.value,
+    )) c.put_number-2.ensures
+
+high : (c : After-unwrap-at-2)
+    → Put c.args.height 10 c.put_part-at-2.new.out c.put_part-at-2.result c.put_number-2.new.out c.unwrap-at-2.result
+high c =
+    let n = near (goal.at.After-unwrap-at-2 c).After-unwrap-at in
+    number_put _ 10 _ _ (omega (arith, n, c.put_part-at-2.ensures.value)) c.put_number-2.ensures c.unwrap-at-2.ensures
+
+near-2 : (c : After-unwrap-at-2) → c.unwrap-at-2.result ≤ 38
 near-2 c =
-    let n = near (goal.at.After-put_number-high c).After-put_number-wide in
+    let n = near (goal.at.After-unwrap-at-2 c).After-unwrap-at in
     omega (arith, (high c).near, n, c.put_part-at-2.ensures.value)
 
-pub put_part-at-requires-2 : goal.put_part-at-requires-2
-put_part-at-requires-2 c = omega (arith, near (goal.at.put_part-at-requires-2 c).After-put_number-wide)
-
 pub put_part-requires : goal.put_part-requires
-put_part-requires c = omega (arith, near-2 (goal.at.put_part-requires c).After-put_number-high)
+put_part-requires c = omega (arith, near-2 (goal.at.put_part-requires c).After-unwrap-at-2)
 
 pub returns : goal.returns
 unfolding text
@@ -44,9 +60,9 @@ returns c =
     let a = c.args in
     let out = a.out.now in
     let e1 = c.put_part-at.ensures in
-    let e2 = wide (goal.at.returns c).After-put_number-wide in
+    let e2 = wide (goal.at.returns c).After-unwrap-at in
     let e3 = c.put_part-at-2.ensures in
-    let e4 = high (goal.at.returns c).After-put_number-high in
+    let e4 = high (goal.at.returns c).After-unwrap-at-2 in
     let e5 = c.put_part.ensures in
     let one = wrote_more [] out 0 out (text "P7\nWIDTH ") _ _ (wrote_none out) e1.value e1.out_after in
     let two = wrote_more _ out _ _ (number_text a.width 10) _ _ one e2.ends e2.is in
