@@ -1,38 +1,44 @@
 -- A line from what the key call answers over a whole bank: the same refusal, or the flag, the kept count and the texels.
-use mathlib.Core.Path.{◌≡◌, sym, ◌∙◌}
+use mathlib.Core.Path.{◌≡◌, sym}
 use mathlib.Core.Bool.{Bool, cond}
 use mathlib.Core.List.{List, [], ◌∷◌}
 use Prim.Native.Nat.{ℕ, ◌*◌}
 use lib.ListN.{length}
-use mir.Val.{bool_byte}
+use Rattle.std.specs.Prelude.{Result, IsErrAnd}
+use Rattle.rules.specs.Base.{one}
 use Rattle.rules.specs.Tile.{Tile, bank_size}
 use Rattle.rules.specs.Refusal.{first}
 use Rattle.rules.specs.Sampling.{flag, lookup_texels, texels}
 use Rattle.rules.specs.Calls.{pair_tests, key_call}
-use Rattle.rules.specs.Key.{kept_count}
 use Rattle.rules.specs.Lister.{line_to, line_of}
-use Rattle.rules.proofs.Refused.{refused_is, done_is, one_byte}
+use Rattle.rules.proofs.Refused.{done_is}
 use Rattle.rules.proofs.Allowed.{Allowed, allowed}
+use Rattle.rdp.specs.Refused.{number_of}
+use Rattle.rdp.specs.declared.refusal.Refusal.{Refusal}
+use Rattle.rdp.proofs.Refusals.{refused_call}
 use Rattle.key.proofs.Called.{called_refusal, called_count}
+use Rattle.listing.specs.View.{line_answered}
+use Rattle.listing.specs.declared.line.Listed.{Listed}
 
 module _ (bank : List ℕ) (t : Tile) (mode : ℕ) (out : List ℕ) (whole : length bank ≡ bank_size) (room : length out ≡ bank_size) where
-  module _ (refusal count : ℕ) (left : List ℕ)
-      (answer : record { refusal = refusal; numbers = count ∷ []; buffers = left ∷ [] } ≡ key_call bank t mode 0 out) where
-    is_first : refusal ≡ first (pair_tests t mode 0)
-    is_first = called_refusal bank t mode 0 out whole room refusal count left answer
+  pub line_refused : (r : Result Listed Refusal) (e : Refusal) (left : List ℕ) → IsErrAnd r (λ f. f ≡ e)
+      → record { refusal = number_of e; numbers = 0 ∷ []; buffers = left ∷ [] } ≡ key_call bank t mode 0 out
+      → line_answered r ≡ line_of t mode bank
+  unfolding line_to
+  line_refused r e left h answer =
+      refused_call _ r e (pair_tests t mode 0) _ [] [] h (called_refusal bank t mode 0 out whole room (number_of e) 0 left answer)
 
-    is_count : refusal ≡ 0 → count ≡ kept_count t mode 0 bank
-    is_count z = called_count bank t mode 0 out whole room refusal count left answer (sym is_first ∙ z)
+  module _ (count : ℕ) (left : List ℕ)
+      (answer : record { refusal = 0; numbers = count ∷ []; buffers = left ∷ [] } ≡ key_call bank t mode 0 out) where
+    passes : first (pair_tests t mode 0) ≡ 0
+    passes = sym (called_refusal bank t mode 0 out whole room 0 count left answer)
 
     -- a line that is not refused is of a tile in range
-    pub line_allowed : refusal ≡ 0 → Allowed t mode 0
-    line_allowed z = allowed t mode 0 (sym is_first ∙ z)
+    pub line_allowed : Allowed t mode 0
+    line_allowed = allowed t mode 0 passes
 
-    pub line_refused : (refusal ≡ 0 → ⊥) → record { refusal = refusal; numbers = 0 ∷ 0 ∷ 0 ∷ []; buffers = [] } ≡ line_of t mode bank
-    unfolding line_to
-    line_refused h = refused_is _ _ _ _ refusal is_first h
-
-    pub line_done : (b : Bool) (n : ℕ) → refusal ≡ 0 → b ≡ flag t mode → n ≡ cond b lookup_texels (t.width * t.height)
-        → record { refusal = 0; numbers = bool_byte b ∷ count ∷ n ∷ []; buffers = [] } ≡ line_of t mode bank
+    pub line_done : (b : Bool) (n : ℕ) → b ≡ flag t mode → n ≡ cond b lookup_texels (t.width * t.height)
+        → record { refusal = 0; numbers = one b ∷ count ∷ n ∷ []; buffers = [] } ≡ line_of t mode bank
     unfolding line_to texels
-    line_done b n z f e = rw (e, one_byte, f, is_count z) (done_is _ _ _ _ (sym is_first ∙ z))
+    line_done b n f e =
+        rw (e, f, called_count bank t mode 0 out whole room 0 count left answer passes) (done_is _ _ _ _ passes)

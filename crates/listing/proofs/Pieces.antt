@@ -6,25 +6,24 @@ use native.Mathlib.Omega.{arith}
 use native.Mathlib.Numerals.{add-one}
 use lib.ListN.{length, length-append}
 use Rattle.rules.specs.Base.{tab, concat}
-use Rattle.rules.specs.Lister.{record_size, record_at, record_line, line_text, listing_to, listing}
+use Rattle.rules.specs.Lister.{record_size, record_at, listing_to, listing}
 use Rattle.rules.proofs.Records.{records_append}
 use Rattle.rules.proofs.Tables.{tab_none, tab-more, concat-append}
-use Rattle.listing.specs.View.{record_text, record_texts}
-
-abbrev shown : List ℕ → List ℕ
-shown r = line_text (record_line r)
+use Rattle.listing.specs.View.{record_text}
 
 -- a table of texts is the texts of a table
-texts_of : (input : List ℕ) (n : ℕ) → tab n (record_text input) ≡ map shown (tab n (record_at input))
-texts_of input zero = rw (tab_none (record_text input), tab_none (record_at input))
+pub texts_of : (input : List ℕ) (n : ℕ) → tab n (λ i. record_text (record_at input i)) ≡ map record_text (tab n (record_at input))
+texts_of input zero = rw (tab_none (λ i. record_text (record_at input i)), tab_none (record_at input))
 texts_of input (suc n) =
-    rw (← add-one, tab-more n (record_text input), tab-more n (record_at input), texts_of input n, map-append)
+    let text = λ (i : ℕ). record_text (record_at input i) in
+    rw (← add-one, tab-more n text, tab-more n (record_at input), texts_of input n, map-append)
 
 module _ (a b : List ℕ) (whole : length a % record_size ≡ 0) where
   abbrev count : ℕ
   count = length a / record_size
 
-  texts : (m : ℕ) → record_texts (a ++ b) (count + m) ≡ record_texts a count ++ record_texts b m
+  texts : (m : ℕ) → concat (tab (count + m) (λ i. record_text (record_at (a ++ b) i)))
+      ≡ concat (tab count (λ i. record_text (record_at a i))) ++ concat (tab m (λ i. record_text (record_at b i)))
   texts m =
       let e : length a ≡ count * record_size = omega arith in
       rw (

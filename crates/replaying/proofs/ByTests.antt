@@ -1,85 +1,100 @@
--- The first refusal of a record, and of the call for one record, by the tests that led there.
-use mathlib.Core.Path.{◌≡◌, refl, sym, ◌∙◌}
-use mathlib.Core.Bool.{Bool, true, false, not, ◌&&◌}
-use mathlib.Core.List.{List, [], ◌∷◌, ◌++◌}
-use Prim.Native.Nat.{ℕ, ◌+◌, ◌<◌, ◌≤◌}
+-- The first refusal of a record by the tests that led there.
+use mathlib.Core.Path.{◌≡◌, refl, ap, sym, ◌∙◌}
+use mathlib.Core.Bool.{true, false}
+use mathlib.Core.List.{List, [], ◌∷◌}
+use Prim.Native.Nat.{ℕ}
 use lib.Dec.{ltb}
 use lib.ListN.{length}
-use borrow.Author.Tests.{lt-ltb, le-ltb}
-use Rattle.rules.specs.Refusal.{Test, first}
-use Rattle.rules.specs.Calls.{number_tests}
-use Rattle.rules.specs.Replay.{replay_size, kind_in, tile_in, image_in, offset_in, size_in, asks_key, outside_in, beyond, record_tests}
-use Rattle.rules.specs.Replay.{spent, short_part}
-use Rattle.rules.proofs.Refused.{numbered, first_next, first-before, first-after}
-use Rattle.rules.proofs.ReplayTests.{key_tests_in, load_tests_in, tests_numbered}
+use Rattle.std.specs.Prelude.{Result, Ok, Err, IsErrAnd}
+use Rattle.rules.specs.Refusal.{Test, ◌if◌, first}
+use Rattle.rules.specs.Calls.{AllLent}
+use Rattle.rules.specs.Replay.{replay_size, kind_in, size_in, asks_key, spent, short_part}
+use Rattle.rules.specs.Replay.{record_tests, step_tests, own_tests, replay_tests}
+use Rattle.rules.specs.Replay.{Carried}
+use Rattle.rules.proofs.Refused.{numbered, first-before, first-after}
+use Rattle.rules.proofs.LentTests.{all_lent}
+use Rattle.rules.proofs.ReplayTests.{key_tests_in, load_tests_in, tests_numbered, step_left}
+use Rattle.rdp.specs.Refused.{number_of, refusal_of}
+use Rattle.rdp.specs.declared.refusal.Refusal.{Refusal}
+use Rattle.rdp.proofs.Refusals.{after}
+
+-- what a `?` hands on has the refusal's number
+pub handed : {A : Type 0} (x : Result A Refusal) (e : Refusal) → IsErrAnd x (λ f. f ≡ e) → refusal_of x ≡ number_of e
+handed (Ok a) e h = absurd h
+handed (Err f) e h = ap number_of h
+
+-- a key takes no number
+key_left : (r : List ℕ) (last : ℕ) → asks_key r ≡ true → first (spent last r ∷ []) ≡ 0
+unfolding first
+key_left r last k = rw k
 
 module _ (end : ℕ) (r : List ℕ) where
-  -- a load's numbers, and next after them the end of the companion file
-  module _ (n : ℕ) (is : n ≡ first (number_tests (size_in r) (tile_in r) (image_in r) (outside_in r) [])) where
-    pub by_numbers : (n ≡ 0 → ⊥) → n ≡ first (load_tests_in end r)
-    by_numbers =
-        first-before (number_tests (size_in r) (tile_in r) (image_in r) (outside_in r) []) (beyond end r ∷ []) n (numbered _ refl) is
+  abbrev torn : Test
+  torn = 8 if ltb (length r) replay_size
 
-    last : n ≡ 0 → first (load_tests_in end r) ≡ first (beyond end r ∷ [])
-    last z =
-        first-after (number_tests (size_in r) (tile_in r) (image_in r) (outside_in r) []) (beyond end r ∷ []) (numbered _ refl)
-        (sym is ∙ z)
+  abbrev unknown_kind : Test
+  unknown_kind = 10 if ltb 3 (kind_in r)
 
-    pub by_end : n ≡ 0 → end < offset_in r + size_in r → 11 ≡ first (load_tests_in end r)
-    unfolding first
-    by_end z h = sym (last z ∙ rw (lt-ltb end (offset_in r + size_in r) h))
+  pub by_length : (n : ℕ) → n ≡ first (torn ∷ []) → (n ≡ 0 → ⊥) → n ≡ first (record_tests end r)
+  unfolding record_tests
+  by_length n e h = first-before (torn ∷ []) _ n (numbered _ refl) e h
 
-    pub by_none : n ≡ 0 → offset_in r + size_in r ≤ end → 0 ≡ first (load_tests_in end r)
-    unfolding first
-    by_none z h = sym (last z ∙ rw (le-ltb end (offset_in r + size_in r) h))
+  module _ (whole : 0 ≡ first (torn ∷ [])) where
+    pub by_kind : (n : ℕ) → n ≡ first (unknown_kind ∷ []) → (n ≡ 0 → ⊥) → n ≡ first (record_tests end r)
+    unfolding record_tests
+    by_kind n e h = after n (torn ∷ []) _ (numbered _ refl) whole (first-before (unknown_kind ∷ []) _ n (numbered _ refl) e h)
 
-  pub torn : length r < replay_size → 8 ≡ first (record_tests end r)
-  unfolding record_tests first
-  torn h = rw (lt-ltb (length r) replay_size h)
-
-  module _ (long : replay_size ≤ length r) where
-    pub unknown_kind : 3 < kind_in r → 10 ≡ first (record_tests end r)
-    unfolding record_tests first
-    unknown_kind h = rw (le-ltb (length r) replay_size long, lt-ltb 3 (kind_in r) h)
-
-    module _ (known : kind_in r ≤ 3) where
+    module _ (known : 0 ≡ first (unknown_kind ∷ [])) where
       pub of_key : (n : ℕ) → asks_key r ≡ true → n ≡ first (key_tests_in end r) → n ≡ first (record_tests end r)
-      unfolding record_tests first
-      of_key n k e = rw (le-ltb (length r) replay_size long, le-ltb 3 (kind_in r) known, k) e
+      unfolding record_tests
+      of_key n k e = after n (torn ∷ unknown_kind ∷ []) _ (numbered _ refl) (after 0 (torn ∷ []) _ (numbered _ refl) whole known) (rw k e)
 
       pub of_load : (n : ℕ) → asks_key r ≡ false → n ≡ first (load_tests_in end r) → n ≡ first (record_tests end r)
-      unfolding record_tests first
-      of_load n k e = rw (le-ltb (length r) replay_size long, le-ltb 3 (kind_in r) known, k) e
+      unfolding record_tests
+      of_load n k e = after n (torn ∷ unknown_kind ∷ []) _ (numbered _ refl) (after 0 (torn ∷ []) _ (numbered _ refl) whole known) (rw k e)
 
--- the test of the part's length
-pub short_is : (part r : List ℕ) (key : Bool) (size : ℕ) → key ≡ asks_key r → size ≡ size_in r
-    → (not key && ltb (length part) size) ≡ (short_part part r).fails
-short_is part r key size k e = rw (k, e)
+-- the tests of a step: a record's own, then the number's
+module _ (end : ℕ) (r : List ℕ) (last : ℕ) where
+  pub refused_step : (n : ℕ) → n ≡ first (record_tests end r) → (n ≡ 0 → ⊥) → n ≡ first (step_tests end r last)
+  refused_step n e h = first-before (record_tests end r) (spent last r ∷ []) n (tests_numbered end r) e h
 
--- the record's own tests before others
-module _ (end : ℕ) (r : List ℕ) (rest : List Test) (n : ℕ) (is : n ≡ first (record_tests end r)) where
-  pub by_record : (n ≡ 0 → ⊥) → n ≡ first (record_tests end r ++ rest)
-  by_record = first-before (record_tests end r) rest n (tests_numbered end r) is
+  module _ (passed : 0 ≡ first (record_tests end r)) where
+    pub load_step : first (step_tests end r last) ≡ first (spent last r ∷ [])
+    load_step = step_left end r (sym passed) last
 
-  pub past_record : (k : ℕ) → n ≡ 0 → k ≡ first rest → k ≡ first (record_tests end r ++ rest)
-  past_record k z e = e ∙ sym (first-after (record_tests end r) rest (tests_numbered end r) (sym is ∙ z))
+    pub key_step : asks_key r ≡ true → 0 ≡ first (step_tests end r last)
+    key_step k = sym (load_step ∙ key_left r last k)
 
--- the number's test, which is the last
-module _ (last : ℕ) (r : List ℕ) where
-  pub by_number : (spent last r).fails ≡ true → 18 ≡ first (spent last r ∷ [])
-  unfolding first
-  by_number h = rw h
+-- the tests of the call for one record: those of the lent buffers, the record's own, the part's, and the number's
+module _ (m : Carried) (r : List ℕ) (end : ℕ) (part : List ℕ) (w : AllLent m.bank m.map m.reasons) where
+  rest : List Test
+  rest = short_part part r ∷ spent m.last r ∷ []
 
-  pub by_nothing : (spent last r).fails ≡ false → 0 ≡ first (spent last r ∷ [])
-  unfolding first
-  by_nothing h = rw h
+  own : first (replay_tests m r end part) ≡ first (own_tests end r part m.last)
+  own = all_lent m.bank m.map m.reasons (own_tests end r part m.last) w
 
-  -- and the part's before it
-  module _ (part : List ℕ) where
-    pub by_part : (short_part part r).fails ≡ true → 11 ≡ first (short_part part r ∷ spent last r ∷ [])
-    unfolding first
-    by_part h = rw h
+  pub refused_record : (n : ℕ) → n ≡ first (record_tests end r) → (n ≡ 0 → ⊥) → n ≡ first (replay_tests m r end part)
+  unfolding rest
+  refused_record n e h = first-before (record_tests end r) rest n (tests_numbered end r) e h ∙ sym own
 
-    pub past_part : (k : ℕ) → (short_part part r).fails ≡ false → k ≡ first (spent last r ∷ [])
-        → k ≡ first (short_part part r ∷ spent last r ∷ [])
-    past_part k h e = e ∙ sym (first_next (short_part part r) (spent last r ∷ []) h)
+  module _ (passed : 0 ≡ first (record_tests end r)) where
+    past : first (replay_tests m r end part) ≡ first rest
+    unfolding rest
+    past = own ∙ first-after (record_tests end r) rest (tests_numbered end r) (sym passed)
+
+    pub key_call : asks_key r ≡ true → 0 ≡ first (replay_tests m r end part)
+    unfolding rest first
+    key_call k = sym (past ∙ rw k)
+
+    module _ (load : asks_key r ≡ false) where
+      pub short_call : (n : ℕ) → n ≡ first ((11 if ltb (length part) (size_in r)) ∷ []) → (n ≡ 0 → ⊥)
+          → n ≡ first (replay_tests m r end part)
+      unfolding rest
+      short_call n e h =
+          first-before (short_part part r ∷ []) (spent m.last r ∷ []) n (numbered (short_part part r ∷ []) refl) (rw load e) h ∙ sym past
+
+      pub load_call : 0 ≡ first ((11 if ltb (length part) (size_in r)) ∷ [])
+          → first (replay_tests m r end part) ≡ first (spent m.last r ∷ [])
+      unfolding rest
+      load_call e =
+          past ∙ first-after (short_part part r ∷ []) (spent m.last r ∷ []) (numbered (short_part part r ∷ []) refl) (rw load (sym e))

@@ -1,91 +1,62 @@
--- A record's part in the piece of the companion file that is at hand, and a record of an input as a part of it.
-use mathlib.Core.Path.{◌≡◌, sym, ◌∙◌}
+-- A record's part in the piece of the companion file that is at hand.
+use mathlib.Core.Path.{◌≡◌, refl}
 use mathlib.Core.Bool.{Bool, true, false, not, ◌&&◌}
 use mathlib.Core.List.{List, []}
-use Prim.Native.Nat.{ℕ, ◌+◌, ◌-◌, ◌*◌, ◌<◌, ◌≤◌, min}
+use Prim.Native.Nat.{ℕ, ◌+◌, ◌-◌, ◌<◌, ◌≤◌}
 use native.Mathlib.Omega.{arith}
 use native.Mathlib.Decide.{dec_lt}
-use lib.Dec.{eqb, leb, ltb}
-use lib.ListN.{length, take, drop, length-drop}
-use lib.Seq.{take_all}
-use borrow.Author.Tests.{lt-ltb, le-ltb, le-leb, lt-leb, ltb-false, not-true}
-use Rattle.rules.specs.Base.{record_of}
+use lib.Dec.{ltb}
+use lib.ListN.{length, take, drop}
+use borrow.Author.Tests.{lt-ltb, le-ltb, ne_eqb}
 use Rattle.rules.specs.Refusal.{first}
-use Rattle.rules.specs.Replay.{asks_key, record_tests}
-use Rattle.rules.specs.Replay.{replay_size, offset_in, size_in, Carried, outcome, part_of, piece, takes_part, at_hand, part_in, in_piece}
-use Rattle.rules.proofs.Ranges.{both}
+use Rattle.rules.specs.Replay.{offset_in, size_in, asks_key, record_tests, Carried, outcome, Piece, takes_part, at_hand, part_in, in_piece}
 
--- a load that is not refused takes its part
-pub takes_is : (end : ℕ) (r : List ℕ) (n : ℕ) (key : Bool) → n ≡ first (record_tests end r) → key ≡ asks_key r
-    → (eqb n 0 && not key) ≡ takes_part end r
-unfolding takes_part
-takes_is end r n key e k = rw (e, k)
-
-module _ (end start : ℕ) (held r : List ℕ) where
-  pub takes_none : takes_part end r ≡ false → true ≡ at_hand (piece end start held) r
-  unfolding at_hand
-  takes_none e = rw e
-
-  module _ (e : takes_part end r ≡ true) where
-    pub starts_before : offset_in r < start → false ≡ at_hand (piece end start held) r
+module _ (p : Piece) (r : List ℕ) where
+  -- a record that takes no part
+  module _ (none : takes_part p.end r ≡ false) where
+    pub none_missing : at_hand p r ≡ true
     unfolding at_hand
-    starts_before h = rw (e, lt-ltb (offset_in r) start h)
+    none_missing = rw none
 
-    pub ends_within : start ≤ offset_in r → leb (offset_in r + size_in r - start) (length held) ≡ at_hand (piece end start held) r
+    pub none_taken : (m : Carried) → outcome p.end [] r m ≡ in_piece p r m
+    unfolding in_piece part_in
+    none_taken m = rw none
+
+  -- one that takes its part
+  module _ (takes : takes_part p.end r ≡ true) where
+    pub part_held : p.start ≤ offset_in r → offset_in r + size_in r ≤ p.start + length p.bytes → at_hand p r ≡ true
     unfolding at_hand
-    ends_within h = rw (e, le-ltb (offset_in r) start h) (go (dec_lt (start + length held) (offset_in r + size_in r)))
+    part_held h k = rw (takes, le-ltb _ _ h, le-ltb _ _ k)
+
+    pub part_missing : ((p.start ≤ offset_in r) × (offset_in r + size_in r ≤ p.start + length p.bytes) → ⊥) → at_hand p r ≡ false
+    unfolding at_hand
+    part_missing h = rw takes (go (dec_lt (offset_in r) p.start) (dec_lt (p.start + length p.bytes) (offset_in r + size_in r)))
       where
-        go : Dec (start + length held < offset_in r + size_in r)
-            → leb (offset_in r + size_in r - start) (length held) ≡ not (ltb (start + length held) (offset_in r + size_in r))
-        go (yes l) =
-            let k : length held < offset_in r + size_in r - start = omega arith in
-            rw (lt-ltb _ _ l, lt-leb _ _ k)
-        go (no l) =
-            let m : offset_in r + size_in r ≤ start + length held = omega (arith, l) in
-            let k : offset_in r + size_in r - start ≤ length held = omega arith in
-            rw (le-ltb _ _ m, le-leb _ _ k)
+        go : Dec (offset_in r < p.start) → Dec (p.start + length p.bytes < offset_in r + size_in r)
+            → (not (ltb (offset_in r) p.start) && not (ltb (p.start + length p.bytes) (offset_in r + size_in r))) ≡ false
+        go (yes l) k = rw (lt-ltb _ _ l)
+        go (no l) (yes k) = rw (lt-ltb _ _ k, le-ltb (offset_in r) p.start (omega (arith, l)))
+        go (no l) (no k) = absurd (h (omega (arith, l), omega (arith, k)))
 
-    pub taken_in : at_hand (piece end start held) r ≡ true → (start ≤ offset_in r) × (offset_in r + size_in r ≤ start + length held)
-    unfolding at_hand
-    taken_in h =
-        let b = both _ _ (rw e at h) in
-        (ltb-false (offset_in r) start (not-true _ b.0), ltb-false (start + length held) (offset_in r + size_in r) (not-true _ b.1))
+    pub part_taken : (m : Carried)
+        → outcome p.end (take (size_in r) (drop (offset_in r - p.start) p.bytes)) r m ≡ in_piece p r m
+    unfolding in_piece part_in
+    part_taken m = rw takes
 
-  -- the record's outcome from a piece, by what it takes
-  pub none_taken : (m : Carried) → takes_part end r ≡ false → outcome end [] r m ≡ in_piece (piece end start held) r m
-  unfolding in_piece part_in
-  none_taken m e = rw e
+and_false : (b : Bool) → (b && false) ≡ false
+and_false true = refl
+and_false false = refl
 
-  pub part_taken : (m : Carried) (from to : ℕ) → takes_part end r ≡ true → from ≡ offset_in r - start → to ≡ from + size_in r
-      → outcome end (take (to - from) (drop from held)) r m ≡ in_piece (piece end start held) r m
-  unfolding in_piece part_in
-  part_taken m from to e f g =
-      let size : to - from ≡ size_in r = omega arith in
-      rw (e, size, f)
+-- which of them a record is
+module _ (end : ℕ) (r : List ℕ) where
+  pub refused_takes : (n : ℕ) → n ≡ first (record_tests end r) → (n ≡ 0 → ⊥) → takes_part end r ≡ false
+  unfolding takes_part
+  refused_takes n e h = rw (← e, ne_eqb _ _ h)
 
--- the stated bytes of a part, as far as it has them
-pub named_part : (r part : List ℕ) (n : ℕ) → n ≡ min (size_in r) (length part) → take n part ≡ part_of r part
-named_part r part n e = go (dec_lt (size_in r) (length part))
-  where
-    go : Dec (size_in r < length part) → take n part ≡ part_of r part
-    go (yes l) = let s : n ≡ size_in r = omega arith in rw s
-    go (no l) =
-        let a : length part ≤ n = omega (arith, l) in
-        let b : length part ≤ size_in r = omega (arith, l) in
-        take_all _ _ a ∙ sym (take_all _ _ b)
+  pub key_takes : asks_key r ≡ true → takes_part end r ≡ false
+  unfolding takes_part
+  key_takes k = rw k (and_false _)
 
--- record i of an input is the part of it that ends with the record, or with the input
-pub record_part : (input : List ℕ) (i to : ℕ) → i * replay_size ≤ length input
-    → to ≡ min (i * replay_size + replay_size) (length input)
-    → take (to - i * replay_size) (drop (i * replay_size) input) ≡ record_of replay_size input i
-record_part input i to h e = go (dec_lt (length input) (i * replay_size + replay_size))
-  where
-    go : Dec (length input < i * replay_size + replay_size)
-        → take (to - i * replay_size) (drop (i * replay_size) input) ≡ record_of replay_size input i
-    go (yes l) =
-        let a : length (drop (i * replay_size) input) ≤ to - i * replay_size = rw length-drop (omega arith) in
-        let b : length (drop (i * replay_size) input) ≤ replay_size = rw length-drop (omega arith) in
-        take_all _ _ a ∙ sym (take_all _ _ b)
-    go (no l) =
-        let s : to - i * replay_size ≡ replay_size = omega (arith, l) in
-        rw s
+  pub load_takes : 0 ≡ first (record_tests end r) → asks_key r ≡ false → takes_part end r ≡ true
+  unfolding takes_part
+  load_takes e k = rw (← e, k)

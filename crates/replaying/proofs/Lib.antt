@@ -1,10 +1,15 @@
 -- Laws of this crate that belong to no one function.
 pub mod AtKeys
-pub mod ByTests
-pub mod Held
-pub mod Loaded
+mod ByTests
+mod Chunks
+mod Held
+mod Lent
+mod Loaded
 pub mod One
+mod OneRecord
+mod Outcomes
+mod Pictures
 pub mod Ran
-pub mod Ready
-pub mod Runs
-pub mod Says
+mod Ready
+mod Runs
+mod Says

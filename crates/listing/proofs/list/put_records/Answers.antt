@@ -1,42 +1,45 @@
 -- `listing::list::put_records` writes a record's text a turn, where the ones before it end. Assumes nothing.
-use mathlib.Core.Path.{◌≡◌, refl, ◌∙◌}
+use mathlib.Core.Path.{◌≡◌, ap, ◌∙◌}
+use mathlib.Core.List.{List, [], ◌++◌, map-append, append-nil}
+use Prim.Native.Nat.{ℕ, ◌+◌, ◌<◌}
 use native.Mathlib.Omega.{arith}
-use borrow.Author.Rules.{rules}
-use Rattle.rules.specs.Base.{tab, tab_from, concat}
-use Rattle.rules.proofs.Tables.{concat-more}
-use Rattle.listing.specs.View.{record_text}
+use lib.ListN.{length, get_or, take}
+use lib.Seq.{take_all}
+use Rattle.std.proofs.lemmas.List.{take_more}
+use Rattle.rules.specs.Base.{concat, over}
+use Rattle.rules.specs.Lister.{line_text}
+use Rattle.rules.proofs.Tables.{concat-append}
+use Rattle.listing.specs.View.{record_text, record_texts}
 use Rattle.decimal.proofs.Writes.{wrote_none, wrote_more}
 use Rattle.listing.proofs.list.put_records.Goals as goal
 
-pub loop-i-init : goal.loop-i-init
-unfolding tab tab_from concat
-loop-i-init c = (search rules, refl, search rules, wrote_none _)
+-- the texts of a record more
+more : (l : List (List ℕ)) (i : ℕ) → i < length l → record_texts (take (i + 1) l) ≡ record_texts (take i l) ++ record_text (get_or l i [])
+unfolding concat
+more l i h =
+    rw (take_more l i [] h, map-append, concat-append) (ap (λ t. record_texts (take i l) ++ t) (append-nil (record_text (get_or l i []))))
 
-pub put_record-at-requires : goal.put_record-at-requires
-put_record-at-requires c = omega arith
+pub loop-record-init : goal.loop-record-init
+unfolding concat
+loop-record-init c = record { near = omega arith; wrote = wrote_none _ }
 
-pub overflow_step-i : goal.overflow_step-i
-overflow_step-i c = omega arith
-
-pub loop-i-smaller : goal.loop-i-smaller
-loop-i-smaller c = omega arith
-
-pub loop-i-preserved : goal.loop-i-preserved
-loop-i-preserved c =
-    let e = c.put_record-at.ensures in
-    let w = wrote_more _ _ _ _ (record_text c.args.input.now c.loop-i.i) _ _ c.loop-i.invariant.3 e.value e.out_after in
-    let same = c.put_record-at.auto.out ∙ c.loop-i.invariant.1 in
-    (omega arith, same, omega (arith, e.upper_bound), rw (concat-more c.loop-i.i (record_text c.args.input.now)) w)
-
-pub shape_of-out : goal.shape_of-out
-shape_of-out c = c.loop-i.invariant.1
+pub loop-record-preserved : goal.loop-record-preserved
+loop-record-preserved c =
+    let i = c.loop-record.record-index in
+    let l = c.args.records.now in
+    let e = c.put_line-at.ensures in
+    let own = ap line_text c.record_line.ensures in
+    let before = c.loop-record.invariant.wrote in
+    let w = wrote_more _ _ _ _ (record_text (get_or l i [])) _ _ before (rw own at e.value) (rw own at e.out_after) in
+    record { near = omega (arith, e.upper_bound, c.loop-record.invariant.near); wrote = rw (more l i c.loop-record-test.true) w }
 
 pub returns : goal.returns
 returns c =
-    let l = c.loop-i in
-    let all : l.i ≡ c.args.count = omega arith in
-    rw (← all) record {
-      value = l.invariant.3.end;
-      upper_bound = l.invariant.2;
-      out_after = l.invariant.3.is;
+    let w = c.loop-record.invariant.wrote in
+    let all : length c.args.records.now ≡ c.loop-record.record-index = omega arith in
+    let whole = take_all c.loop-record.record-index c.args.records.now (omega arith) in
+    record {
+      value = w.end ∙ ap (λ l. length (record_texts l)) whole;
+      upper_bound = omega (arith, c.loop-record.invariant.near);
+      out_after = w.is ∙ ap (λ l. over (record_texts l) c.args.out.now) whole;
     }

@@ -1,28 +1,19 @@
--- `replaying::step::carry_out` does the load that the record says. Assumes nothing.
+-- `replaying::step::carry_out` does the load, and answers without how much was made up. Assumes nothing.
 use mathlib.Core.Path.{ap, ◌∙◌}
-use mathlib.Core.List.{[]}
-use lib.ListN.{length}
-use Rattle.rules.specs.Refusal.{first}
-use Rattle.rules.specs.Calls.{number_tests}
-use Rattle.rules.specs.Load.{ordinary}
-use Rattle.rules.specs.Replay.{tile_in, image_in}
-use Rattle.tmem.specs.Asked.{asked_call}
-use Rattle.replaying.proofs.Loaded.{loaded_is}
+use Rattle.rules.specs.Calls.{AllLent}
+use Rattle.replaying.proofs.Loaded.{less, handed_answer, loaded_is}
+use Rattle.replaying.proofs.step.carry_out.Goals.{After-load}
 use Rattle.replaying.proofs.step.carry_out.Goals as goal
 
+-- the buffers have their lengths
+lent : (c : After-load) → AllLent c.args.bank.now c.args.written.now c.args.reasons.now
+lent c = record { whole_bank = c.told-bank; whole_map = c.told-written; whole_reasons = c.told-reasons }
+
+pub returns-in_err-done : goal.returns-in_err-done
+returns-in_err-done c =
+    handed_answer _ _ _ _ c.from_residual.ensures.1
+    ∙ ap less c.in_err-done.ensures
+    ∙ loaded_is c.args.asks _ _ _ _ _ (lent (goal.at.returns-in_err-done c).After-load) c.requires
+
 pub returns : goal.returns
-returns c =
-    let b = c.args.bytes.now in
-    let bank = c.args.bank.now in
-    let map = c.args.written.now in
-    let reasons = c.args.reasons.now in
-    let src = c.args.src.now in
-    let asked = c.asked_in.result in
-    let says = c.asked_in.ensures in
-    let passed = ap (λ o. first (number_tests (length src) (tile_in b) (image_in b) o [])) says.result_value ∙ c.requires.bytes_value in
-    let answer = c.load-done.ensures
-    ∙ (λ i. asked_call bank map reasons src (c.tile_in.ensures i) (c.image_in.ensures i) asked ordinary c.args.last) in
-    let loaded = loaded_is bank map reasons src (tile_in b) (image_in b) asked c.args.last c.requires.all_lent passed c.requires.last_bound
-    _ _ _ _ _ _ _ answer in
-    let done = rw says.result_value_2 at loaded in
-    record { refusal_value = done.0; carried_out = done.1 }
+returns c = ap less c.in_ok-done.ensures ∙ loaded_is c.args.asks _ _ _ _ _ (lent (goal.at.returns c).After-load) c.requires
