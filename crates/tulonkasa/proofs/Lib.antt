@@ -1,2 +1,3 @@
 -- Two answers of a call are the same.
+pub mod Determined
 pub mod One

@@ -2,8 +2,8 @@
 use mathlib.Core.Path.{◌≡◌}
 use mathlib.Core.List.{[], ◌∷◌}
 use Rattle.rules.proofs.Refused.{determined}
-use Rattle.rdp.proofs.Determined.{answered_determined, load_determined, size_determined, refusal_determined, sampling_determined}
-use Rattle.rdp.proofs.Determined.{check_determined, reason_determined, replay_determined, split_determined, yes_determined}
+use Rattle.tulonkasa.proofs.Determined.{answered_determined, load_determined, size_determined, refusal_determined, sampling_determined}
+use Rattle.tulonkasa.proofs.Determined.{check_determined, reason_determined, replay_determined, split_determined, yes_determined}
 use Rattle.tulonkasa.proofs.files.tk_write_pam.Reads as tk_write_pam
 use Rattle.tulonkasa.proofs.files.tk_read_pam.Reads as tk_read_pam
 use Rattle.tulonkasa.proofs.keys.tk_key.Reads as tk_key

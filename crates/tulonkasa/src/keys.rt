@@ -1,11 +1,11 @@
 // The key of a picture, and the check of one that was made elsewhere.
 ghost use Rattle.std.specs.Prelude.{◌≡◌, [], ◌∷◌};
 ghost use Rattle.rules.specs.Calls.{key_call, check_call};
-ghost use Rattle.rdp.specs.View.{answered, check_answered};
+ghost use Rattle.tulonkasa.specs.View.{answered, check_answered};
 ghost use Rattle.rules.specs.Tile.{tile_from};
 
+use crate::answer::{Answer, CheckAnswer};
 use crate::tile::tile_from;
-use rdp::answer::{Answer, CheckAnswer};
 
 // The key of the picture that the flag calls for; the count of kept bytes is answered.
 #[unsafe(no_mangle)]
@@ -33,7 +33,7 @@ pub extern "C" fn tk_key(
     let tile = tile_from(
         fmt, siz, palette, cms, cmt, masks, maskt, line, tmem_addr, width, height,
     );
-    key::key::key(bank, tile, mode, lane, key)
+    key::key::key(bank, tile, mode, lane, key).into()
 }
 
 // Whether the offer is that key; where it is not, the lowest wrong address and what is wrong there.
@@ -62,5 +62,5 @@ pub extern "C" fn tk_check_key(
     let tile = tile_from(
         fmt, siz, palette, cms, cmt, masks, maskt, line, tmem_addr, width, height,
     );
-    key::check::check_key(bank, tile, mode, lane, offer)
+    key::check::check_key(bank, tile, mode, lane, offer).into()
 }

@@ -2,11 +2,11 @@
 ghost use Rattle.std.specs.Prelude.{◌≡◌, [], ◌∷◌};
 ghost use Rattle.rules.specs.Calls.{block_call, tile_call, tlut_hardware_call, tlut_rows_call};
 ghost use Rattle.rules.specs.Load.{ordinary};
-ghost use Rattle.rdp.specs.View.{load_answered};
+ghost use Rattle.tulonkasa.specs.View.{load_answered};
 ghost use Rattle.rules.specs.Tile.{load_tile_from};
 
+use crate::answer::LoadAnswer;
 use crate::tile::load_tile_from;
-use rdp::answer::LoadAnswer;
 use tmem::reason::Reason;
 
 // A block load, after a load of the number `last`. The count of stores is answered, how many of their bytes came from past the source's
@@ -31,7 +31,7 @@ pub extern "C" fn tk_load_block(
         (load_tile_from fmt siz line tmem_addr) image_siz dxt word_count ordinary last }
 {
     let tile = load_tile_from(fmt, siz, line, tmem_addr);
-    tmem::load::write_block_for_tile(
+    let loaded = tmem::load::write_block_for_tile(
         bank,
         written,
         reasons,
@@ -42,7 +42,8 @@ pub extern "C" fn tk_load_block(
         word_count,
         Reason::Ordinary,
         last,
-    )
+    );
+    LoadAnswer::of(loaded, last)
 }
 
 // A tile load.
@@ -67,7 +68,7 @@ pub extern "C" fn tk_load_tile(
         (load_tile_from fmt siz line tmem_addr) image_siz row_count words_per_row stride ordinary last }
 {
     let tile = load_tile_from(fmt, siz, line, tmem_addr);
-    tmem::load::write_tile_for_tile(
+    let loaded = tmem::load::write_tile_for_tile(
         bank,
         written,
         reasons,
@@ -79,7 +80,8 @@ pub extern "C" fn tk_load_tile(
         stride,
         Reason::Ordinary,
         last,
-    )
+    );
+    LoadAnswer::of(loaded, last)
 }
 
 // A TLUT load by the hardware: rows 1, and an image of size 1 to 3.
@@ -104,7 +106,7 @@ pub extern "C" fn tk_load_tlut_hardware(
         (load_tile_from fmt siz line tmem_addr) image_siz count rows stride ordinary last }
 {
     let tile = load_tile_from(fmt, siz, line, tmem_addr);
-    tmem::load::write_tlut_hardware_for_tile(
+    let loaded = tmem::load::write_tlut_hardware_for_tile(
         bank,
         written,
         reasons,
@@ -116,7 +118,8 @@ pub extern "C" fn tk_load_tlut_hardware(
         stride,
         Reason::Ordinary,
         last,
-    )
+    );
+    LoadAnswer::of(loaded, last)
 }
 
 // A TLUT load row by row: the defined extension for several rows or an image of size 0.
@@ -141,7 +144,7 @@ pub extern "C" fn tk_load_tlut_rows(
         (load_tile_from fmt siz line tmem_addr) image_siz row_entries rows stride ordinary last }
 {
     let tile = load_tile_from(fmt, siz, line, tmem_addr);
-    tmem::load::write_tlut_rows_for_tile(
+    let loaded = tmem::load::write_tlut_rows_for_tile(
         bank,
         written,
         reasons,
@@ -153,5 +156,6 @@ pub extern "C" fn tk_load_tlut_rows(
         stride,
         Reason::Ordinary,
         last,
-    )
+    );
+    LoadAnswer::of(loaded, last)
 }

@@ -1,11 +1,11 @@
 // The calls on maps: reach, has-load, the question for a reason, and the lane check.
 ghost use Rattle.std.specs.Prelude.{◌≡◌, [], ◌∷◌};
 ghost use Rattle.rules.specs.Calls.{reach_call, has_load_call, rejection_call, lane_call};
-ghost use Rattle.rdp.specs.View.{yes_answered, reason_answered, refusal_answered};
+ghost use Rattle.tulonkasa.specs.View.{yes_answered, reason_answered, refusal_answered};
 ghost use Rattle.rules.specs.Tile.{tile_from};
 
+use crate::answer::{ReasonAnswer, YesAnswer, refusal_number};
 use crate::tile::tile_from;
-use rdp::answer::{ReasonAnswer, YesAnswer};
 
 // The addresses that a tile can reach, as a map; the refusal is answered.
 #[unsafe(no_mangle)]
@@ -30,7 +30,7 @@ pub extern "C" fn tk_reach(
     let tile = tile_from(
         fmt, siz, palette, cms, cmt, masks, maskt, line, tmem_addr, width, height,
     );
-    reach::reach::reach(tile, mode, map)
+    refusal_number(reach::reach::reach(tile, mode, map))
 }
 
 // Whether reach and the written map meet.
@@ -56,7 +56,7 @@ pub extern "C" fn tk_tile_has_load(
     let tile = tile_from(
         fmt, siz, palette, cms, cmt, masks, maskt, line, tmem_addr, width, height,
     );
-    reach::has_load::tile_has_load(tile, mode, written)
+    reach::has_load::tile_has_load(tile, mode, written).into()
 }
 
 // The first reason among the bytes that the tile reaches, then, in modes 2 and 3, of its palette; 0 is none.
@@ -82,7 +82,7 @@ pub extern "C" fn tk_rejection(
     let tile = tile_from(
         fmt, siz, palette, cms, cmt, masks, maskt, line, tmem_addr, width, height,
     );
-    reach::rejection::rejection(tile, mode, reasons)
+    reach::rejection::rejection(tile, mode, reasons).into()
 }
 
 // The palette slots whose lanes differ, as a map; the refusal is answered.
@@ -90,5 +90,5 @@ pub extern "C" fn tk_rejection(
 pub extern "C" fn tk_palette_nonreplicated(bank: &[u8], map: &mut [u8]) -> u32
     ensures { refusal_answered result (map.new ∷ []) ≡ lane_call bank.now map.old }
 {
-    reach::lane::palette_nonreplicated_bytes(bank, map)
+    refusal_number(reach::lane::palette_nonreplicated_bytes(bank, map))
 }

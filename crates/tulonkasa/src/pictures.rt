@@ -2,11 +2,11 @@
 ghost use Rattle.std.specs.Prelude.{◌≡◌, [], ◌∷◌};
 ghost use Rattle.rules.specs.Calls.{sample_tile_call, sample_tile_observed_call, sampling_lookup_call, sampling_lookup_observed_call};
 ghost use Rattle.rules.specs.Calls.{linear_call};
-ghost use Rattle.rdp.specs.View.{answered};
+ghost use Rattle.tulonkasa.specs.View.{answered};
 ghost use Rattle.rules.specs.Tile.{tile_from, linear_tile_from};
 
+use crate::answer::Answer;
 use crate::tile::{linear_tile_from, tile_from};
-use rdp::answer::Answer;
 
 // The plain picture; the count of reads is answered.
 #[unsafe(no_mangle)]
@@ -34,7 +34,7 @@ pub extern "C" fn tk_sample_tile(
     let tile = tile_from(
         fmt, siz, palette, cms, cmt, masks, maskt, line, tmem_addr, width, height,
     );
-    decoder::picture::sample_tile_lane(bank, tile, mode, lane, picture)
+    decoder::picture::sample_tile_lane(bank, tile, mode, lane, picture).into()
 }
 
 // The plain picture with the trail of its reads.
@@ -64,7 +64,7 @@ pub extern "C" fn tk_sample_tile_observed(
     let tile = tile_from(
         fmt, siz, palette, cms, cmt, masks, maskt, line, tmem_addr, width, height,
     );
-    decoder::picture::sample_tile_lane_observed(bank, tile, mode, lane, picture, trail)
+    decoder::picture::sample_tile_lane_observed(bank, tile, mode, lane, picture, trail).into()
 }
 
 // The lookup.
@@ -93,7 +93,7 @@ pub extern "C" fn tk_sampling_lookup(
     let tile = tile_from(
         fmt, siz, palette, cms, cmt, masks, maskt, line, tmem_addr, width, height,
     );
-    decoder::picture::sampling_lookup_lane(bank, tile, mode, lane, picture)
+    decoder::picture::sampling_lookup_lane(bank, tile, mode, lane, picture).into()
 }
 
 // The lookup with the trail of its reads.
@@ -123,7 +123,7 @@ pub extern "C" fn tk_sampling_lookup_observed(
     let tile = tile_from(
         fmt, siz, palette, cms, cmt, masks, maskt, line, tmem_addr, width, height,
     );
-    decoder::picture::sampling_lookup_lane_observed(bank, tile, mode, lane, picture, trail)
+    decoder::picture::sampling_lookup_lane_observed(bank, tile, mode, lane, picture, trail).into()
 }
 
 // The linear decoding of a source, without a bank; the count of reads is answered.
@@ -142,5 +142,5 @@ pub extern "C" fn tk_decode_linear(
         ≡ linear_call source.now (linear_tile_from fmt siz palette width height) stride picture.old }
 {
     let tile = linear_tile_from(fmt, siz, palette, width, height);
-    decoder::linear::decode_linear(source, tile, stride, picture)
+    decoder::linear::decode_linear(source, tile, stride, picture).into()
 }

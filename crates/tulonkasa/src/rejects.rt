@@ -2,11 +2,11 @@
 ghost use Rattle.std.specs.Prelude.{◌≡◌, [], ◌∷◌};
 ghost use Rattle.rules.specs.Calls.{block_call, tile_call, tlut_hardware_call, tlut_rows_call};
 ghost use Rattle.rules.specs.Load.{rejected};
-ghost use Rattle.rdp.specs.View.{load_answered};
+ghost use Rattle.tulonkasa.specs.View.{load_answered};
 ghost use Rattle.rules.specs.Tile.{load_tile_from};
 
+use crate::answer::LoadAnswer;
 use crate::tile::load_tile_from;
-use rdp::answer::LoadAnswer;
 use tmem::reason::Reason;
 
 // A block load whose source was rejected for a reason. It answers as the ordinary one does.
@@ -31,7 +31,7 @@ pub extern "C" fn tk_reject_block(
         (load_tile_from fmt siz line tmem_addr) image_siz dxt word_count (rejected reason) last }
 {
     let tile = load_tile_from(fmt, siz, line, tmem_addr);
-    tmem::load::write_block_for_tile(
+    let loaded = tmem::load::write_block_for_tile(
         bank,
         written,
         reasons,
@@ -42,7 +42,8 @@ pub extern "C" fn tk_reject_block(
         word_count,
         Reason::Rejected(reason),
         last,
-    )
+    );
+    LoadAnswer::of(loaded, last)
 }
 
 // A rejected tile load.
@@ -68,7 +69,7 @@ pub extern "C" fn tk_reject_tile(
         (load_tile_from fmt siz line tmem_addr) image_siz row_count words_per_row stride (rejected reason) last }
 {
     let tile = load_tile_from(fmt, siz, line, tmem_addr);
-    tmem::load::write_tile_for_tile(
+    let loaded = tmem::load::write_tile_for_tile(
         bank,
         written,
         reasons,
@@ -80,7 +81,8 @@ pub extern "C" fn tk_reject_tile(
         stride,
         Reason::Rejected(reason),
         last,
-    )
+    );
+    LoadAnswer::of(loaded, last)
 }
 
 // A rejected TLUT load by the hardware.
@@ -106,7 +108,7 @@ pub extern "C" fn tk_reject_tlut_hardware(
         (load_tile_from fmt siz line tmem_addr) image_siz count rows stride (rejected reason) last }
 {
     let tile = load_tile_from(fmt, siz, line, tmem_addr);
-    tmem::load::write_tlut_hardware_for_tile(
+    let loaded = tmem::load::write_tlut_hardware_for_tile(
         bank,
         written,
         reasons,
@@ -118,7 +120,8 @@ pub extern "C" fn tk_reject_tlut_hardware(
         stride,
         Reason::Rejected(reason),
         last,
-    )
+    );
+    LoadAnswer::of(loaded, last)
 }
 
 // A rejected TLUT load row by row.
@@ -144,7 +147,7 @@ pub extern "C" fn tk_reject_tlut_rows(
         (load_tile_from fmt siz line tmem_addr) image_siz row_entries rows stride (rejected reason) last }
 {
     let tile = load_tile_from(fmt, siz, line, tmem_addr);
-    tmem::load::write_tlut_rows_for_tile(
+    let loaded = tmem::load::write_tlut_rows_for_tile(
         bank,
         written,
         reasons,
@@ -156,5 +159,6 @@ pub extern "C" fn tk_reject_tlut_rows(
         stride,
         Reason::Rejected(reason),
         last,
-    )
+    );
+    LoadAnswer::of(loaded, last)
 }

@@ -1,9 +1,10 @@
 // The replay of a capture's loads, a record at a time.
 ghost use Rattle.std.specs.Prelude.{◌≡◌, [], ◌∷◌};
 ghost use Rattle.rules.specs.Replay.{carried, replay_call};
-ghost use Rattle.rdp.specs.View.{replay_answered};
+ghost use Rattle.tulonkasa.specs.View.{replay_answered};
 
-use rdp::answer::ReplayAnswer;
+use crate::answer::ReplayAnswer;
+use replaying::single::replay_record;
 
 // One record, after a load of the number `last`. The count of its stores, or for a key of its kept bytes, is answered, and the number of
 // the last load after it. A load clears the reasons where it stores.
@@ -21,5 +22,6 @@ pub extern "C" fn tk_replay_record(
         ≡ replay_call (carried bank.old written.old reasons.old last) «record».now end
         part.now }
 {
-    replaying::single::replay_record(bank, written, reasons, record, end, part, last)
+    let replayed = replay_record(bank, written, reasons, record, end, part, last);
+    ReplayAnswer::of(replayed, last)
 }

@@ -1,11 +1,11 @@
 // Which picture a tile calls for, and how large it is.
 ghost use Rattle.std.specs.Prelude.{◌≡◌};
 ghost use Rattle.rules.specs.Calls.{sampling_call};
-ghost use Rattle.rdp.specs.View.{sampling_answered};
+ghost use Rattle.tulonkasa.specs.View.{sampling_answered};
 ghost use Rattle.rules.specs.Tile.{tile_from};
 
+use crate::answer::SamplingAnswer;
 use crate::tile::tile_from;
-use rdp::answer::SamplingAnswer;
 
 // The sampling flag and the allocation extent.
 #[unsafe(no_mangle)]
@@ -28,5 +28,5 @@ pub extern "C" fn tk_sampling(
     let tile = tile_from(
         fmt, siz, palette, cms, cmt, masks, maskt, line, tmem_addr, width, height,
     );
-    tile_sampling::sampling::sampling(tile, mode)
+    tile_sampling::sampling::sampling(tile, mode).into()
 }

@@ -1,6 +1,0 @@
--- `tulonkasa::keys::tk_key` answers what the call below it does, for the tile of its numbers. Assumes nothing.
-use Rattle.tulonkasa.proofs.keys.tk_key.Goals as goal
-
-pub returns : goal.returns
-returns c =
-    rw (← c.tile_from-tile.ensures) c.key.ensures
