@@ -1,9 +1,6 @@
--- What the lister reads at a time, sixteen records, and the room of its lines with a torn tail's.
+-- The room of the lines of what the lister reads at a time, sixteen records, with a torn tail's.
 use Rattle.std.specs.Prelude.{ℕ, ◌*◌}
-use Rattle.rules.specs.Lister.{record_size, line_room}
-
-abbrev pub piece_size : ℕ
-piece_size = 16 * record_size
+use Rattle.rules.specs.Lister.{line_room}
 
 abbrev pub piece_room : ℕ
 piece_room = 17 * line_room

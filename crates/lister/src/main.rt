@@ -3,15 +3,15 @@
 // input: what was read is listed, and then the program ends with the error. A write that fails ends it at once.
 #![tactic(auto)]
 
-mod reader;
-
-ghost use Rattle.std.specs.Prelude.{◌≡◌, ◌++◌, ◌+◌, ◌*◌, ◌/◌, ◌≤◌, length, take, IfOk};
+ghost use Rattle.std.specs.Prelude.{◌≡◌, ◌++◌, ◌+◌, ◌*◌, ◌/◌, ◌≤◌, length, take};
 ghost use Rattle.rules.specs.Base.{over};
 ghost use Rattle.rules.specs.Lister.{record_size, line_room, listing};
-ghost use Rattle.lister.specs.Piece.{piece_size, piece_room};
+ghost use Rattle.lister.specs.Piece.{piece_room};
+ghost use Rattle.pieces.specs.Text.{text_size};
 
 use listing::list::{LINE_ROOM, RECORD, list};
-use reader::PieceReader;
+use pieces::reader::{PieceReader, ReadPiece};
+use pieces::text::{Text, WriteText};
 use std::io;
 use std::io::{Read, Write};
 
@@ -22,67 +22,23 @@ const PIECE: usize = RECORDS * RECORD;
 
 const PIECE_ROOM: usize = (RECORDS + 1) * LINE_ROOM;
 
-// The room of the text, which is written out when it is nearly full.
-const TEXT: usize = 65536;
-
-// Where the text that was not yet written out ends, and whether there is more input.
-#[derive(Clone, Copy)]
-struct Progress {
-    end: usize,
-    more: bool,
-}
-
-// The lines of a piece of the input, after the text so far.
-fn list_piece(piece: &[u8], text: &mut [u8], at: usize) -> usize
-    requires { at + line_room * (length piece.now / record_size + 1) ≤ length text.old }
-    ensures value { result ≡ at + length (listing piece.now) }
-    ensures upper_bound { result ≤ length text.old }
-    ensures text_after { text.new ≡ over (take at text.old ++ listing piece.now) text.old }
+// Adds the lines of a piece of the input to the text.
+fn list_piece(piece: &[u8], text: &mut Text)
+    requires { text.old.end + line_room * (length piece.now / record_size + 1) ≤ text_size }
+    ensures end_value { text.new.end ≡ text.old.end + length (listing piece.now) }
+    ensures text_after { text.new.bytes ≡ over (take text.old.end text.old.bytes ++ listing piece.now) text.old.bytes }
 {
-    let listed = list(piece, &mut text[at..]);
-    at + listed.end
+    let listed = list(piece, &mut text.bytes[text.end..]);
+    text.end += listed.unwrap();
 }
 
-// Reads a piece of the input, or what is left of it, and lists it.
-fn list_next<R: Read>(
-    input: &mut PieceReader<R>,
-    piece: &mut [u8],
-    text: &mut [u8],
-    at: usize,
-) -> Progress
-    requires piece_len { length piece.old ≡ piece_size }
-    requires piece_room_in_bounds { at + piece_room ≤ length text.old }
-    ensures { result.end ≤ length text.old }
+// Reads a piece of the input, or what is left of it, and lists it. It answers whether there may be more.
+fn list_next<R: Read>(input: &mut PieceReader<R>, piece: &mut [u8; PIECE], text: &mut Text) -> bool
+    requires { text.old.end + piece_room ≤ text_size }
 {
     let got = input.fill(piece);
-    let end = list_piece(&piece[..got], text, at);
-    Progress {
-        end,
-        more: got == piece.len(),
-    }
-}
-
-// Writes the first `end` bytes of the text out.
-fn write_out<W: Write>(output: &mut W, text: &[u8], end: usize) -> io::Result<()>
-    requires { end ≤ length text.now }
-{
-    output.write_all(&text[..end])
-}
-
-// Writes the text out once the lines of a piece may find no room after it.
-fn write_full<W: Write>(output: &mut W, text: &[u8], step: Progress) -> io::Result<Progress>
-    requires { (step.end ≤ length text.now) × (piece_room ≤ length text.now) }
-    ensures { IfOk result (λ kept. kept.end + piece_room ≤ length text.now) }
-{
-    let end = step.end;
-    if text.len() - end < PIECE_ROOM {
-        write_out(output, text, end)?;
-        return Ok(Progress {
-            end: 0,
-            more: step.more,
-        });
-    }
-    Ok(step)
+    list_piece(&piece[..got], text);
+    got == PIECE
 }
 
 // Lists the whole input. A proved loop has to end, and nothing says that an input does. So the loop counts its turns, up to a number
@@ -90,42 +46,30 @@ fn write_full<W: Write>(output: &mut W, text: &[u8], step: Progress) -> io::Resu
 fn list_all<R: Read, W: Write>(
     input: &mut PieceReader<R>,
     output: &mut W,
-    piece: &mut [u8],
-    text: &mut [u8],
-) -> io::Result<()>
-    requires piece_len { length piece.old ≡ piece_size }
-    requires piece_room_in_bounds { piece_room ≤ length text.old }
-{
-    let mut end = 0;
+    piece: &mut [u8; PIECE],
+    text: &mut Text,
+) -> io::Result<()> {
     for _ in 0..u64::MAX {
-        let step = list_next(input, piece, text, end);
-        let kept = write_full(output, text, step)?;
-        end = kept.end;
-        if !kept.more {
+        output.write_full(text, PIECE_ROOM)?;
+        if !list_next(input, piece, text) {
             break;
         }
     }
-    write_out(output, text, end)
+    output.write_text(text)
 }
 
 // Room for a piece of the input.
-fn piece_buffer() -> [u8; PIECE]
-    ensures { length result ≡ piece_size }
-{
+fn piece_buffer() -> [u8; PIECE] {
     [0u8; PIECE]
 }
 
-// Room for the text.
-fn text_buffer() -> [u8; TEXT]
-    ensures { length result ≡ TEXT }
-{
-    [0u8; TEXT]
-}
-
 fn main(rt: HostRuntime) -> io::Result<()> {
-    let mut input = PieceReader::new(rt.stdin());
+    let mut input = PieceReader {
+        reader: rt.stdin(),
+        failed: Ok(()),
+    };
     let mut piece = piece_buffer();
-    let mut text = text_buffer();
+    let mut text = Text::default();
     list_all(&mut input, &mut rt.stdout(), &mut piece, &mut text)?;
-    input.finish()
+    input.failed
 }

@@ -6,23 +6,20 @@ use std::io::{ErrorKind, Read};
 
 // A read that fails ends what is read, and its error is kept.
 #[derive(Drop)]
-pub(crate) struct PieceReader<R> {
-    reader: R,
-    failed: io::Result<()>,
+pub struct PieceReader<R> {
+    pub reader: R,
+    pub failed: io::Result<()>,
 }
 
-impl<R: Read> PieceReader<R> {
-    pub(crate) fn new(reader: R) -> PieceReader<R> {
-        PieceReader {
-            reader,
-            failed: Ok(()),
-        }
-    }
-
+pub trait ReadPiece {
     // Reads until the piece is full or there is no more, and answers how many bytes were read.
-    pub(crate) fn fill(&mut self, piece: &mut [u8]) -> usize
-        ensures { result ≤ length piece.new }
-    {
+    fn fill(&mut self, piece: &mut [u8]) -> usize
+        ensures { result ≤ length piece.new };
+}
+
+impl<R: Read> ReadPiece for PieceReader<R> {
+    // A proved loop has to end, and nothing says that reads do. So the loop counts its turns, up to a number that no run reaches.
+    fn fill(&mut self, piece: &mut [u8]) -> usize {
         let mut size = 0;
         for _ in 0..u64::MAX {
             if size == piece.len() {
@@ -40,13 +37,5 @@ impl<R: Read> PieceReader<R> {
             }
         }
         size
-    }
-
-    // The error of a read that failed, if one did.
-    pub(crate) fn finish(self) -> io::Result<()>
-    where
-        R: Drop,
-    {
-        self.failed
     }
 }

@@ -1,0 +1,2 @@
+-- What the contracts of the pieces cite.
+pub mod Text
