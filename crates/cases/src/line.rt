@@ -12,77 +12,72 @@ const COLUMNS: usize = 26;
 const COLUMN: usize = 6;
 
 // A line's bytes, with its end.
-pub(crate) const LENGTH: usize = NAME + 1 + COLUMNS * COLUMN + 1;
+const LENGTH: usize = NAME + 1 + COLUMNS * COLUMN + 1;
 
 // The first of the call's own columns.
 pub(crate) const OWN: usize = 12;
 
-// The byte at i, and 0 past the line's end.
-fn byte(line: &[u8], i: usize) -> u8 {
-    if i < line.len() { line[i] } else { 0 }
+#[derive(Clone, Copy)]
+pub(crate) struct Line {
+    pub(crate) bytes: [u8; LENGTH],
 }
 
-// The digit at i; a blank is 0.
-fn digit(line: &[u8], i: usize) -> u32
-    ensures { result < 16 }
-{
-    byte(line, i) as u32 % 16
-}
-
-// The number of a column, in its last five places.
-pub(crate) fn number(line: &[u8], column: usize) -> u32
-    requires { column < 26 }
-{
-    let at = NAME + 2 + COLUMN * column;
-    10000 * digit(line, at)
-        + 1000 * digit(line, at + 1)
-        + 100 * digit(line, at + 2)
-        + 10 * digit(line, at + 3)
-        + digit(line, at + 4)
-}
-
-// A length that a column asks for, as far as there is room.
-pub(crate) fn part(line: &[u8], column: usize, room: usize) -> usize
-    requires { column < 26 }
-    ensures { result ≤ room }
-{
-    let asked = number(line, column) as usize;
-    if asked < room { asked } else { room }
-}
-
-pub(crate) fn letter(line: &[u8]) -> u8 {
-    byte(line, NAME)
-}
-
-pub(crate) fn tile(line: &[u8]) -> TileDescriptor {
-    TileDescriptor {
-        fmt: number(line, 0),
-        siz: number(line, 1),
-        palette: number(line, 2),
-        cms: number(line, 4),
-        cmt: number(line, 5),
-        masks: number(line, 6),
-        maskt: number(line, 7),
-        line: LineWords(number(line, 8)),
-        tmem_addr: WordAddr(number(line, 9)),
-        width: number(line, 10),
-        height: number(line, 11),
-    }
-}
-
-pub(crate) fn mode(line: &[u8]) -> u32 {
-    number(line, 3)
-}
-
-// How many bytes the name has, up to its last one that is not blank.
-pub(crate) fn name(line: &[u8]) -> usize
-    ensures { result ≤ 32 }
-{
-    let mut n = 0;
-    for i in 0..NAME {
-        if byte(line, i) != b' ' {
-            n = i + 1;
+impl Line {
+    // A line that is to be read.
+    pub(crate) fn blank() -> Line {
+        Line {
+            bytes: [b' '; LENGTH],
         }
     }
-    n
+
+    // The name, up to its last byte that is not blank.
+    pub(crate) fn name(&self) -> &[u8] {
+        let name = &self.bytes[..NAME];
+        let last = name.iter().rposition(|byte| *byte != b' ');
+        &name[..last.map_or(0, |last| last + 1)]
+    }
+
+    pub(crate) fn letter(&self) -> u8 {
+        self.bytes[NAME]
+    }
+
+    // The number of a column, in its last five places. A blank is 0.
+    pub(crate) fn number(&self, column: usize) -> u32
+        requires { column < 26 }
+    {
+        let at = NAME + 2 + COLUMN * column;
+        let mut number = 0u32;
+        for digit in &self.bytes[at..at + 5] {
+            number = number.wrapping_mul(10).wrapping_add(*digit as u32 % 16);
+        }
+        number
+    }
+
+    // A length that a column asks for, as far as there is room.
+    pub(crate) fn part(&self, column: usize, room: usize) -> usize
+        requires { column < 26 }
+        ensures { result ≤ room }
+    {
+        (self.number(column) as usize).min(room)
+    }
+
+    pub(crate) fn tile(&self) -> TileDescriptor {
+        TileDescriptor {
+            fmt: self.number(0),
+            siz: self.number(1),
+            palette: self.number(2),
+            cms: self.number(4),
+            cmt: self.number(5),
+            masks: self.number(6),
+            maskt: self.number(7),
+            line: LineWords(self.number(8)),
+            tmem_addr: WordAddr(self.number(9)),
+            width: self.number(10),
+            height: self.number(11),
+        }
+    }
+
+    pub(crate) fn mode(&self) -> u32 {
+        self.number(3)
+    }
 }

@@ -1,9 +1,10 @@
 // Loads: `b` a block, `t` a tile, `c` a lookup table; `B`, `T` and `C` are rejected ones. The output is name, refusal, count, made-up
 // count, number, the weights of bank and written map after the load, and eight bytes of the bank. Where LENT is 2 there follow the weight
 // of the reasons and eight of them.
-use crate::line::OWN;
-use crate::{buffers, line, show};
-use rdp::answer::LoadAnswer;
+use crate::line::{Line, OWN};
+use crate::{buffers, show};
+use rdp::answer::Loaded;
+use rdp::refusal::Refusal;
 use std::io;
 use std::io::Write;
 use tmem::asked::Asked;
@@ -43,28 +44,29 @@ const REASONS: usize = OWN + 12;
 const REASON: usize = OWN + 13;
 
 // A capital letter's load is rejected.
-fn reason(case: &[u8]) -> Reason {
-    match line::letter(case) {
-        b'B' | b'T' | b'C' => Reason::Rejected(line::number(case, REASON)),
+fn reason(case: &Line) -> Reason {
+    match case.letter() {
+        b'B' | b'T' | b'C' => Reason::Rejected(case.number(REASON)),
         _ => Reason::Ordinary,
     }
 }
 
+// The load. It lends the three buffers one by one, as the public loads take them.
 fn load(
-    case: &[u8],
+    case: &Line,
     bank: &mut [u8],
     map: &mut [u8],
     reasons: &mut [u8],
     src: &[u8],
-) -> LoadAnswer {
-    let tile = line::tile(case);
-    let size = line::number(case, IMAGE);
-    let a = line::number(case, A);
-    let b = line::number(case, B);
-    let c = line::number(case, STRIDE);
+) -> Result<Loaded, Refusal> {
+    let tile = case.tile();
+    let size = case.number(IMAGE);
+    let a = case.number(A);
+    let b = case.number(B);
+    let c = case.number(STRIDE);
     let why = reason(case);
-    let last = line::number(case, LAST);
-    match line::letter(case) {
+    let last = case.number(LAST);
+    match case.letter() {
         b'b' | b'B' => write_block_for_tile(bank, map, reasons, src, tile, size, a, b, why, last),
         b't' | b'T' => write_tile_for_tile(bank, map, reasons, src, tile, size, a, b, c, why, last),
         _ => {
@@ -74,24 +76,35 @@ fn load(
     }
 }
 
-// Eight of the bytes, where there are as many.
-fn eight<W: Write>(output: &mut W, bytes: &[u8], from: usize) -> io::Result<()> {
-    if bytes.len() < from {
-        return Ok(());
-    }
-    if bytes.len() - from < 8 {
-        return Ok(());
-    }
-    for k in 0..8 {
-        show::number(output, bytes[from + k] as u64)?;
-    }
-    Ok(())
+// The load's numbers. Where it was refused they are 0, but the number of the last load, which is the one passed.
+fn show_loaded<W: Write>(
+    output: &mut W,
+    case: &Line,
+    answer: Result<Loaded, Refusal>,
+) -> io::Result<()> {
+    let loaded = answer.unwrap_or(Loaded {
+        count: 0,
+        made_up: 0,
+        number: case.number(LAST),
+    });
+    show::refusal(output, answer)?;
+    write!(
+        output,
+        " {} {} {}",
+        loaded.count, loaded.made_up, loaded.number
+    )
 }
 
-// Those that the case asks for.
-fn shown<W: Write>(output: &mut W, case: &[u8], bytes: &[u8]) -> io::Result<()> {
-    show::text(output, b":")?;
-    eight(output, bytes, line::number(case, SHOWN) as usize)
+// Eight of the bytes, from where the case asks for them, if there are as many.
+fn shown<W: Write>(output: &mut W, case: &Line, bytes: &[u8]) -> io::Result<()> {
+    output.write_all(b":")?;
+    let from = case.number(SHOWN) as usize;
+    if let Some(eight) = bytes.get(from..from + 8) {
+        for byte in eight {
+            show::number(output, *byte as u64)?;
+        }
+    }
+    Ok(())
 }
 
 fn weight(bytes: &[u8]) -> u64 {
@@ -101,15 +114,15 @@ fn weight(bytes: &[u8]) -> u64 {
 // The load into the first bytes of a bank, a map and reasons. Bank and map are shown whole.
 fn load_into<W: Write>(
     output: &mut W,
-    case: &[u8],
+    case: &Line,
     bank: &mut [u8],
     map: &mut [u8],
     reasons: &mut [u8],
     src: &[u8],
 ) -> io::Result<()> {
-    let bank_len = line::part(case, BANK, bank.len());
-    let map_len = line::part(case, MAP, map.len());
-    let reasons_len = line::part(case, REASONS, reasons.len());
+    let bank_len = case.part(BANK, bank.len());
+    let map_len = case.part(MAP, map.len());
+    let reasons_len = case.part(REASONS, reasons.len());
     let answer = load(
         case,
         &mut bank[..bank_len],
@@ -117,16 +130,16 @@ fn load_into<W: Write>(
         &mut reasons[..reasons_len],
         src,
     );
-    show::name(output, case)?;
-    show::load_answer(output, answer)?;
+    output.write_all(case.name())?;
+    show_loaded(output, case, answer)?;
     show::number(output, weight(bank))?;
     show::number(output, weight(map))?;
     shown(output, case, bank)
 }
 
 // The load into a fresh bank, or into parts of a bank of sevens, of a map of nines and of reasons of nines.
-fn load_from<W: Write>(output: &mut W, case: &[u8], src: &[u8]) -> io::Result<()> {
-    let lent = line::number(case, LENT);
+fn load_from<W: Write>(output: &mut W, case: &Line, src: &[u8]) -> io::Result<()> {
+    let lent = case.number(LENT);
     if lent == 0 {
         let fresh = Bank::fresh();
         let mut bank = fresh.bytes;
@@ -134,9 +147,9 @@ fn load_from<W: Write>(output: &mut W, case: &[u8], src: &[u8]) -> io::Result<()
         let mut reasons = [0u8; Bank::REASONS_SIZE];
         return load_into(output, case, &mut bank, &mut map, &mut reasons, src);
     }
-    let mut bank = buffers::sevens();
-    let mut map = [9u8; Bank::WRITTEN_SIZE + 1];
-    let mut reasons = [9u8; Bank::REASONS_SIZE + 1];
+    let mut bank: [u8; buffers::LONG_BANK] = buffers::all(7);
+    let mut map: [u8; Bank::WRITTEN_SIZE + 1] = buffers::all(9);
+    let mut reasons: [u8; Bank::REASONS_SIZE + 1] = buffers::all(9);
     load_into(output, case, &mut bank, &mut map, &mut reasons, src)?;
     if lent == 2 {
         show::number(output, weight(&reasons))?;
@@ -145,12 +158,10 @@ fn load_from<W: Write>(output: &mut W, case: &[u8], src: &[u8]) -> io::Result<()
     Ok(())
 }
 
-pub(crate) fn run<W: Write>(output: &mut W, case: &[u8]) -> io::Result<()> {
-    let mut source = buffers::source();
-    let start = line::number(case, START);
-    let step = line::number(case, STEP);
-    buffers::count_up(&mut source, start, step);
-    let bytes = line::part(case, BYTES, buffers::SOURCE);
+pub(crate) fn run<W: Write>(output: &mut W, case: &Line) -> io::Result<()> {
+    let mut source: [u8; buffers::SOURCE] = buffers::all(0);
+    buffers::count_up(&mut source, case.number(START), case.number(STEP));
+    let bytes = case.part(BYTES, buffers::SOURCE);
     load_from(output, case, &source[..bytes])?;
-    show::text(output, b"\n")
+    output.write_all(b"\n")
 }

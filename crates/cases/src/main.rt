@@ -11,13 +11,13 @@ mod pictures;
 mod reaches;
 mod show;
 
-use line::LENGTH;
+use line::Line;
 use std::io;
 use std::io::{ErrorKind, Read, Write};
 
-// The case of a line, by its letter.
-fn run<W: Write>(output: &mut W, case: &[u8]) -> io::Result<()> {
-    match line::letter(case) {
+// The case of a line, by its letter, which is the input's own word for a kind. A line of the columns' names has none of these.
+fn run<W: Write>(output: &mut W, case: &Line) -> io::Result<()> {
+    match case.letter() {
         b'b' | b't' | b'c' | b'B' | b'T' | b'C' => loads::run(output, case),
         b'r' | b'm' | b'w' | b'q' | b'l' => reaches::run(output, case),
         b'p' | b'o' | b's' => pictures::run(output, case),
@@ -27,8 +27,8 @@ fn run<W: Write>(output: &mut W, case: &[u8]) -> io::Result<()> {
 
 // Runs the next line. Past the end of the input there is none.
 fn run_next<R: Read, W: Write>(input: &mut R, output: &mut W) -> io::Result<()> {
-    let mut case = [0u8; LENGTH];
-    match input.read_exact(&mut case) {
+    let mut case = Line::blank();
+    match input.read_exact(&mut case.bytes) {
         Ok(()) => run(output, &case),
         Err(error) if error.kind() == ErrorKind::UnexpectedEof => Ok(()),
         Err(error) => Err(error),

@@ -6,6 +6,7 @@ mod buffers;
 mod cases;
 mod record;
 
+use record::Record;
 use std::io;
 use std::io::{ErrorKind, Read};
 
@@ -19,67 +20,45 @@ struct Tally {
     whole: bool,
 }
 
-fn ended(t: Tally, sum: u32, whole: bool) -> Tally {
-    Tally {
-        cases: t.cases,
-        wrong: t.wrong,
-        sum,
-        whole,
+impl Tally {
+    // One record more: the end record, or a case.
+    fn add(&mut self, r: &Record) {
+        let most = buffers::digest_on(self.sum, &r.bytes[..60]);
+        let is_end = r.one(0) == 255;
+        self.sum = buffers::digest_on(self.sum, &r.bytes);
+        self.whole = is_end && most == r.four(60);
+        if !is_end {
+            self.cases = self.cases.wrapping_add(1);
+            self.wrong = self.wrong.wrapping_add(!cases::holds(r) as u64);
+        }
     }
 }
 
-fn counted(t: Tally, sum: u32, holds: bool) -> Tally {
-    Tally {
-        cases: t.cases.wrapping_add(1),
-        wrong: t.wrong.wrapping_add(!holds as u64),
-        sum,
-        whole: false,
-    }
-}
-
-// One record more: the end record, or a case.
-fn after(t: Tally, r: &[u8], most: u32, all: u32) -> Tally {
-    if record::one(r, 0) == 255 {
-        ended(t, all, most == record::four(r, 60))
-    } else {
-        counted(t, all, cases::holds(r))
-    }
-}
-
-// Reads the next record, and answers whether there was a whole one.
-fn read_record<R: Read>(input: &mut R, r: &mut [u8]) -> io::Result<bool> {
-    match input.read_exact(r) {
-        Ok(()) => Ok(true),
-        Err(error) if error.kind() == ErrorKind::UnexpectedEof => Ok(false),
+// The next record, if there is a whole one.
+fn read_record<R: Read>(input: &mut R) -> io::Result<Option<Record>> {
+    let mut r = Record::zero();
+    match input.read_exact(&mut r.bytes) {
+        Ok(()) => Ok(Some(r)),
+        Err(error) if error.kind() == ErrorKind::UnexpectedEof => Ok(None),
         Err(error) => Err(error),
     }
 }
 
-// Past the end of the input nothing changes.
-fn step<R: Read>(input: &mut R, t: Tally) -> io::Result<Tally> {
-    let mut r = [0u8; 64];
-    if !read_record(input, &mut r)? {
-        return Ok(t);
-    }
-    let most = buffers::digest_on(t.sum, &r[..60]);
-    let all = buffers::digest_on(t.sum, &r);
-    Ok(after(t, &r, most, all))
-}
-
 // The first record says how the file was made; the others are replayed, ten thousand at most.
 fn replay<R: Read>(input: &mut R) -> io::Result<Tally> {
-    let mut head = [0u8; 64];
-    read_record(input, &mut head)?;
-    let mut t = Tally {
+    let head = read_record(input)?.unwrap_or(Record::zero());
+    let mut tally = Tally {
         cases: 0,
         wrong: 0,
-        sum: buffers::digest_on(1, &head),
+        sum: buffers::digest_on(1, &head.bytes),
         whole: false,
     };
     for _ in 0..10000u32 {
-        t = step(input, t)?;
+        if let Some(r) = read_record(input)? {
+            tally.add(&r);
+        }
     }
-    Ok(t)
+    Ok(tally)
 }
 
 fn report(rt: &impl Print, t: Tally) -> io::Result<()> {

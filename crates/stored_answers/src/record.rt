@@ -1,74 +1,83 @@
 // The numbers of a record, big end first.
-ghost use Rattle.std.specs.Prelude.{◌≤◌};
+ghost use Rattle.std.specs.Prelude.{◌+◌, ◌<◌, ◌≤◌};
 
+use rdp::refusal::Refusal;
 use rdp::tile::TileDescriptor;
 use rdp::units::{LineWords, WordAddr};
 
-// The byte at k, and 0 past the record's end.
-pub(crate) fn one(r: &[u8], k: usize) -> u32 {
-    if k < r.len() { wide(r[k]) } else { 0 }
+#[derive(Clone, Copy)]
+pub(crate) struct Record {
+    pub(crate) bytes: [u8; Record::SIZE],
 }
 
-fn wide(b: u8) -> u32 {
-    b as u32
-}
+impl Record {
+    pub(crate) const SIZE: usize = 64;
 
-// A number and one byte more.
-fn and_byte(n: u32, b: u32) -> u32 {
-    n % 16777216 * 256 + b % 256
-}
-
-pub(crate) fn two(r: &[u8], k: usize) -> u32 {
-    if k < 64 {
-        and_byte(one(r, k), one(r, k + 1))
-    } else {
-        0
+    // A record that is to be read.
+    pub(crate) fn zero() -> Record {
+        Record {
+            bytes: [0u8; Record::SIZE],
+        }
     }
-}
 
-pub(crate) fn four(r: &[u8], k: usize) -> u32 {
-    if k < 64 {
-        let high = two(r, k);
-        and_byte(and_byte(high, one(r, k + 2)), one(r, k + 3))
-    } else {
-        0
+    pub(crate) fn one(&self, k: usize) -> u32
+        requires { k < 64 }
+    {
+        self.bytes[k] as u32
     }
-}
 
-// A length of at most `most` bytes.
-pub(crate) fn long(r: &[u8], k: usize, most: usize) -> usize
-    ensures { result ≤ most }
-{
-    let n = four(r, k) as usize;
-    if n < most { n } else { most }
-}
-
-// The tile of the lister's sixteen bytes, which stand from 2 on.
-pub(crate) fn tile(r: &[u8]) -> TileDescriptor {
-    TileDescriptor {
-        fmt: one(r, 2),
-        siz: one(r, 3),
-        palette: one(r, 4),
-        cms: one(r, 6),
-        cmt: one(r, 7),
-        masks: one(r, 8),
-        maskt: one(r, 9),
-        line: LineWords(two(r, 10)),
-        tmem_addr: WordAddr(two(r, 12)),
-        width: two(r, 14),
-        height: two(r, 16),
+    pub(crate) fn two(&self, k: usize) -> u32
+        requires { k + 1 < 64 }
+    {
+        u16::from_be_bytes([self.bytes[k], self.bytes[k + 1]]) as u32
     }
-}
 
-pub(crate) fn mode(r: &[u8]) -> u32 {
-    one(r, 5)
-}
+    pub(crate) fn four(&self, k: usize) -> u32
+        requires { k + 3 < 64 }
+    {
+        let b = &self.bytes;
+        u32::from_be_bytes([b[k], b[k + 1], b[k + 2], b[k + 3]])
+    }
 
-pub(crate) fn lane(r: &[u8]) -> u32 {
-    one(r, 1)
-}
+    // A length of at most `most` bytes.
+    pub(crate) fn long(&self, k: usize, most: usize) -> usize
+        requires { k + 3 < 64 }
+        ensures { result ≤ most }
+    {
+        (self.four(k) as usize).min(most)
+    }
 
-// The refusal and the first number answered are the stored ones.
-pub(crate) fn answered(r: &[u8], refusal: u32, number: u32) -> bool {
-    (refusal == two(r, 46)) & (number == four(r, 48))
+    // The tile of the lister's sixteen bytes, which stand from 2 on.
+    pub(crate) fn tile(&self) -> TileDescriptor {
+        TileDescriptor {
+            fmt: self.one(2),
+            siz: self.one(3),
+            palette: self.one(4),
+            cms: self.one(6),
+            cmt: self.one(7),
+            masks: self.one(8),
+            maskt: self.one(9),
+            line: LineWords(self.two(10)),
+            tmem_addr: WordAddr(self.two(12)),
+            width: self.two(14),
+            height: self.two(16),
+        }
+    }
+
+    pub(crate) fn mode(&self) -> u32 {
+        self.one(5)
+    }
+
+    pub(crate) fn lane(&self) -> u32 {
+        self.one(1)
+    }
+
+    // The refusal and the first number answered are the stored ones. A call that refused answers the number 0.
+    pub(crate) fn answered(&self, answer: Result<u32, Refusal>) -> bool {
+        let refusal = match answer {
+            Ok(_) => 0,
+            Err(refusal) => refusal.number(),
+        };
+        (refusal == self.two(46)) & (answer.unwrap_or(0) == self.four(48))
+    }
 }

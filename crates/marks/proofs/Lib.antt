@@ -1,0 +1,2 @@
+-- Two answers of a call are the same.
+pub mod One

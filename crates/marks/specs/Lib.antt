@@ -1,0 +1,2 @@
+-- What the contract of the marks cites.
+pub mod Number
