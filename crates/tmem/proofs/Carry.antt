@@ -16,7 +16,7 @@ use Rattle.rules.proofs.Reasons.{reasoned-append}
 use Rattle.rules.proofs.MadeUp.{made_up_within, made_up-append}
 use Rattle.tmem.specs.declared.memory.Memory.{Memory}
 use Rattle.tmem.specs.declared.tally.Tally.{Tally}
-use Rattle.tmem.specs.Part.{Carried, Counted, tally_of, no_tally, plus_tally}
+use Rattle.tmem.specs.Part.{Carried, Counted, CountedApart, lists, tally_of, no_tally, plus_tally}
 
 module _ {src : List ℕ} {m : Memory} where
   none : Carried src [] m m
@@ -152,6 +152,18 @@ module _ {n : ℕ} {f : ℕ → List Store} {src : List ℕ} {m : Memory} where
         let count : tally.count + more.count ≡ length l = ap (λ (a : Tally). a.count) joined in
         let made : tally.made_up + more.made_up ≡ made_up (length src) l = ap (λ (a : Tally). a.made_up) joined in
         (omega (arith, all, few, count), omega (arith, all, few, made, made_up_within (length src) l))
+
+-- Buffers that are lent each by itself, as a memory of its own over them leaves them.
+pub apart : {src : List ℕ} {l : List Store} {n n' : Memory} {tally : Tally}
+    → Counted src l n n' tally
+    → CountedApart src l n.label (lists n.bank.now n.written.now n.reasons.now) (lists n'.bank.now n'.written.now n'.reasons.now) tally
+apart q =
+    record {
+      bank_is = ap (λ x. x.now) q.carried.bank_is;
+      map_is = ap (λ x. x.now) q.carried.map_is;
+      reasons_is = ap (λ x. x.now) q.carried.reasons_is;
+      tally_is = q.tally_is;
+    }
 
 -- A memory of its own borrows another's lists under names of its own. What it leaves stands behind the other's references.
 pub on_loan : {src : List ℕ} {l : List Store} (m : Memory) {n n' : Memory} {tally : Tally}

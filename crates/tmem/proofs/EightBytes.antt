@@ -3,14 +3,27 @@ use denote.Ref.{at_last}
 use mathlib.Core.Path.{◌≡◌, refl, ap, ◌∙◌}
 use mathlib.Core.Bool.{Bool, true, false}
 use mathlib.Core.List.{List}
-use Prim.Native.Nat.{ℕ, zero, suc, ◌+◌, ◌*◌, ◌<◌}
+use Prim.Native.Nat.{ℕ, zero, suc, ◌+◌, ◌*◌, ◌/◌, ◌%◌, ◌<◌, ◌^◌}
 use native.Mathlib.Omega.{arith}
 use lib.Dec.{eqb}
+use lib.ListN.{get_or}
 use Rattle.rules.specs.Base.{tab, tab_from, concat, stamps}
 use Rattle.rules.specs.Load.{store, LoadTile, split_stores, whole_stores, stored, written, reasoned}
 use Rattle.rules.proofs.Loads.{split_by}
 use Rattle.tmem.specs.declared.memory.Memory.{Memory}
-use Rattle.tmem.specs.Part.{source_bytes, Carried}
+use Rattle.tmem.specs.Part.{bytes_in, source_bytes, Carried}
+
+-- a byte of a word, by a shift
+pub byte_shifted : (n k : ℕ) → k < 8 → n / 2 ^ (8 * k) % 256 ≡ get_or (bytes_in n) k 0
+byte_shifted n zero h = omega arith
+byte_shifted n (suc zero) h = refl
+byte_shifted n (suc (suc zero)) h = refl
+byte_shifted n (suc (suc (suc zero))) h = refl
+byte_shifted n (suc (suc (suc (suc zero)))) h = refl
+byte_shifted n (suc (suc (suc (suc (suc zero))))) h = refl
+byte_shifted n (suc (suc (suc (suc (suc (suc zero)))))) h = refl
+byte_shifted n (suc (suc (suc (suc (suc (suc (suc zero))))))) h = refl
+byte_shifted n (suc (suc (suc (suc (suc (suc (suc (suc k)))))))) h = absurd (omega arith)
 
 -- Stores of a word's own bytes, once these are taken from the source, are the rule's stores.
 module _ (src : List ℕ) (from : ℕ → ℕ) {m m' : Memory} where

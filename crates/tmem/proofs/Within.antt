@@ -14,8 +14,8 @@ use Rattle.rules.specs.Calls.{block_outside, tile_load_outside, tlut_outside, ha
 use Rattle.rules.proofs.Ranges.{neither}
 use Rattle.rules.proofs.Refused.{Passed, numbered, passed, done_or_is}
 use Rattle.tmem.specs.declared.tally.Tally.{Tally}
-use Rattle.tmem.specs.declared.memory.Memory.{Memory}
-use Rattle.tmem.specs.Part.{Counted}
+use Rattle.tmem.specs.declared.memory.Label.{Label}
+use Rattle.tmem.specs.Part.{CountedApart, lists}
 
 -- what the tests of a load's numbers leave that all loads share, after a load of the number `last`
 pub record Within (image : ℕ) (outside : Bool) (why : Reason) (last : ℕ) : Type 0 where
@@ -41,27 +41,17 @@ within size t image outside why last h =
       reason_in = p.1.1.1.0;
     }
 
--- the memory's references hold these lists
-pub record Holds (m : Memory) (bank map reasons : List ℕ) : Type 0 where
-  pub bank_is : bank ≡ m.bank.now
-  pub map_is : map ≡ m.written.now
-  pub reasons_is : reasons ≡ m.reasons.now
-
 -- What a load that is carried out then answers and leaves.
-pub loaded_done : (tests : List Test) (l : List Store) (src : List ℕ) (m m' : Memory) (why : Reason) (last : ℕ) (tally : Tally)
+pub loaded_done : (tests : List Test) (l : List Store) (src : List ℕ) (label : Label) (why : Reason) (last : ℕ) (tally : Tally)
     {bank map reasons bank' map' reasons' : List ℕ}
     → first tests ≡ 0
-    → m.label.number ≡ following last
-    → m.label.reason ≡ reason_left why
-    → Holds m bank map reasons
-    → Counted src l m m' tally
-    → Holds m' bank' map' reasons'
+    → label.number ≡ following last
+    → label.reason ≡ reason_left why
+    → CountedApart src l label (lists bank map reasons) (lists bank' map' reasons') tally
     → record { refusal = 0; numbers = tally.count ∷ tally.made_up ∷ following last ∷ []; buffers = bank' ∷ map' ∷ reasons' ∷ [] }
     ≡ loaded tests l bank map reasons src why last
-loaded_done tests l src m m' why last tally z n w h done h' =
-    let c = done.carried in
-    rw (h'.bank_is, h'.map_is, h'.reasons_is, h.bank_is, h.map_is, h.reasons_is, done.tally_is, c.bank_is, c.map_is, c.reasons_is, n, w)
-    (done_or_is tests _ _ _ _ z)
+loaded_done tests l src label why last tally z n w done =
+    rw (done.tally_is, done.bank_is, done.map_is, done.reasons_is, n, w) (done_or_is tests _ _ _ _ z)
 
 -- what each load's own test leaves
 pub block_in : (dxt words : ℕ) → block_outside dxt words ≡ false → (dxt ≤ 4095) × (words ≤ 2048)

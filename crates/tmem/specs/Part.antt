@@ -5,6 +5,7 @@ use Rattle.std.specs.Int.{w64, to_le_bytes}
 use denote.Ref.{at_last}
 use Rattle.rules.specs.Base.{tab}
 use Rattle.rules.specs.Load.{Store, store, LoadTile, stored, written, reasoned, made_up, word_made_up}
+use Rattle.tmem.specs.declared.memory.Label.{Label}
 use Rattle.tmem.specs.declared.memory.Memory.{Memory}
 use Rattle.tmem.specs.declared.place.LoadTile.{LoadTile as Declared}
 use Rattle.tmem.specs.declared.source.SourceWord.{SourceWord}
@@ -76,4 +77,20 @@ plus_tally a b = record { count = a.count + b.count; made_up = a.made_up + b.mad
 -- the stores of a list are carried out, and their tally is answered
 pub record Counted (src : List ℕ) (l : List Store) (m m' : Memory) (tally : Tally) : Type 0 where
   pub carried : Carried src l m m'
+  pub tally_is : tally ≡ tally_of (length src) l
+
+-- what the three buffers of a load hold
+pub record Lists : Type 0 where
+  pub bank : List ℕ
+  pub map : List ℕ
+  pub reasons : List ℕ
+
+abbrev pub lists : List ℕ → List ℕ → List ℕ → Lists
+lists b w r = record { bank = b; map = w; reasons = r }
+
+-- the same of buffers that are lent each by itself, for a load with that label
+pub record CountedApart (src : List ℕ) (l : List Store) (label : Label) (m m' : Lists) (tally : Tally) : Type 0 where
+  pub bank_is : m'.bank ≡ stored src l m.bank
+  pub map_is : m'.map ≡ written label.number l m.map
+  pub reasons_is : m'.reasons ≡ reasoned label.reason l m.reasons
   pub tally_is : tally ≡ tally_of (length src) l

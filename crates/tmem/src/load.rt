@@ -1,17 +1,20 @@
 // The loads: a block, a tile or a lookup table into the bank. Each refuses, or stores and leaves its number and its reason.
-ghost use Rattle.std.specs.Prelude.{◌≡◌, [], ◌∷◌};
+ghost use Rattle.std.specs.Prelude.{◌≡◌, false, [], ◌∷◌, ◌≤◌};
 ghost use Rattle.rules.specs.Refusal.{◌if◌, first};
 ghost use Rattle.rules.specs.Calls.{lent_tests, number_spent, bad_reason, number_tests};
 ghost use Rattle.rules.specs.Calls.{block_call, tile_call, tlut_hardware_call, tlut_rows_call};
 ghost use Rattle.rdp.specs.Refused.{refusal_of};
 ghost use Rattle.rdp.specs.View.{tile_of, load_answered};
-ghost use Rattle.tmem.specs.Asked.{asked_outside, asked_call};
+ghost use Rattle.tmem.specs.Asked.{asked_outside, asked_stores, asked_call};
+ghost use Rattle.tmem.specs.Part.{load_of, lists, CountedApart};
 ghost use Rattle.tmem.specs.Reasons.{reason_of};
 
 use crate::asked::Asked;
 use crate::bank::Bank;
 use crate::memory::{Label, Memory};
+use crate::place::LoadTile;
 use crate::reason::Reason;
+use crate::tally::Tally;
 use rdp::answer::Loaded;
 use rdp::refusal::{Refusal, refuse};
 use rdp::tile::TileDescriptor;
@@ -69,6 +72,31 @@ fn check_load(
     refuse(Refusal::Spent, is_spent(last))
 }
 
+// What is asked for, on a bank, a written map and reasons of their lengths; it answers its tally of stores.
+fn carry_out(
+    bank: &mut [u8; Bank::SIZE],
+    written: &mut [u8; Bank::WRITTEN_SIZE],
+    reasons: &mut [u8; Bank::REASONS_SIZE],
+    label: Label,
+    src: &[u8],
+    tile: LoadTile,
+    image_siz: u32,
+    asked: Asked,
+) -> Tally
+    requires image_siz_bound { image_siz ≤ 3 }
+    requires asked_inside { asked_outside image_siz asked ≡ false }
+    ensures { CountedApart src.now (asked_stores (load_of tile) image_siz asked) label
+        (lists bank.old written.old reasons.old) (lists bank.new written.new reasons.new) result }
+{
+    let mut memory = Memory {
+        bank,
+        written,
+        reasons,
+        label,
+    };
+    asked.write(&mut memory, src, tile, image_siz)
+}
+
 // Every load, ordinary or rejected, after the one whose number is `last`: it refuses, or carries out what is asked, and answers.
 pub fn load(
     bank: &mut [u8],
@@ -85,28 +113,23 @@ pub fn load(
         ≡ asked_call bank.old written.old reasons.old src.now (tile_of tile) image_siz asked
         (reason_of reason) last }
 {
-    let Some(bank) = bank.as_mut_array() else {
-        return Err(Refusal::Length);
-    };
-    let Some(written) = written.as_mut_array() else {
-        return Err(Refusal::Length);
-    };
-    let Some(reasons) = reasons.as_mut_array() else {
-        return Err(Refusal::Length);
-    };
+    check_lent(bank, written, reasons)?;
     check_load(src.len(), tile, image_siz, asked, reason, last)?;
     let number = last + 1;
     let label = Label {
         number: number as u16,
         reason: reason.left(),
     };
-    let mut memory = Memory {
-        bank,
-        written,
-        reasons,
+    let done = carry_out(
+        bank.as_mut_array().unwrap(),
+        written.as_mut_array().unwrap(),
+        reasons.as_mut_array().unwrap(),
         label,
-    };
-    let done = asked.write(&mut memory, src, tile.into(), image_siz);
+        src,
+        tile.into(),
+        image_siz,
+        asked,
+    );
     Ok(Loaded {
         count: done.count,
         made_up: done.made_up,

@@ -1,5 +1,5 @@
 // What a load writes, and the two stores of a halfword there. Every store of a load is one of such two.
-ghost use Rattle.std.specs.Prelude.{◌≡◌, ◌%◌, ◌<◌};
+ghost use Rattle.std.specs.Prelude.{◌≡◌, ◌%◌, ◌<◌, get_or};
 ghost use Rattle.rules.specs.Tile.{bank_size};
 ghost use Rattle.tmem.specs.Part.{half_stores, bytes_in, Carried};
 
@@ -12,6 +12,15 @@ use rdp::units::ByteAddr;
 pub(crate) struct Label {
     pub(crate) number: u16,
     pub(crate) reason: u8,
+}
+
+// Byte k of a word. By a shift: by `to_le_bytes` the compiler made all eight bytes of a word before it chose where they go, and had no
+// room to keep them at hand.
+fn byte_of(word: u64, k: usize) -> u8
+    requires { k < 8 }
+    ensures { result ≡ get_or (bytes_in word) k 0 }
+{
+    ((word >> 8 * k as u32) % 256) as u8
 }
 
 // Bank, written map and reasons, as they are lent, and the load's label.
@@ -32,9 +41,8 @@ impl Memory<'_> {
         ensures { Carried (bytes_in word) (half_stores at.0 k next_k) self.old self.new }
     {
         let i = at.0;
-        let bytes = word.to_le_bytes();
-        self.bank[i] = bytes[k];
-        self.bank[i + 1] = bytes[next_k];
+        self.bank[i] = byte_of(word, k);
+        self.bank[i + 1] = byte_of(word, next_k);
         self.reasons[i] = self.label.reason;
         self.reasons[i + 1] = self.label.reason;
         let map = &mut *self.written;

@@ -3,7 +3,7 @@
 use denote.Ref.{at_last}
 use mathlib.Core.Path.{refl, ap}
 use Prim.Native.Nat.{◌+◌}
-use lib.ListN.{get_or, set}
+use lib.ListN.{set}
 use Rattle.rules.specs.Base.{stamps}
 use Rattle.rules.specs.Load.{stored, written, reasoned}
 use Rattle.tmem.proofs.memory.Memory.store_pair.Goals as goal
@@ -14,9 +14,7 @@ returns c =
     let m = c.args.self.now in
     let at = c.args.at.0 in
     record {
-      bank_is =
-          ap (λ l. at_last m.bank (set (set m.bank.now at (get_or l c.args.k 0)) (at + 1) (get_or l c.args.next_k 0)))
-          c.to_le_bytes-bytes.ensures;
+      bank_is = λ i. at_last m.bank (set (set m.bank.now at (c.byte_of.ensures i)) (at + 1) (c.byte_of-2.ensures i));
       map_is = ap (λ w. at_last m.written w.map.now) c.mark.ensures;
       reasons_is = refl;
       label_is = refl;
