@@ -181,6 +181,11 @@ lanes_placed true false n h = agree_below 9 (made_lanes true false) (placed_lane
 lanes_placed false true n h = agree_below 9 (made_lanes false true) (placed_lanes false true) tt n (omega arith)
 lanes_placed false false n h = agree_below 9 (made_lanes false false) (placed_lanes false false) tt n (omega arith)
 
+-- a whole word's bytes are all, whichever way its halves are
+pub whole_turned : (odd : Bool) → 18446744073709551615 ≡ turned w64 32 odd (full 8)
+whole_turned true = refl
+whole_turned false = refl
+
 -- byte x of a row, from the row's first word and from the tile's
 row_place : (low : Bool) (first word line y x : ℕ) (o : Bool) → first ≡ (word + y * line) % bank_words
     → address (bytes_of low) (8 * first) o x ≡ address (bytes_of low) (8 * word) o (y * (8 * line) + x)

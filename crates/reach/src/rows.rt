@@ -1,6 +1,6 @@
 // The first reason of a span, and of the rows of a tile. Rows of one word at most are asked four at a time. A reason is a byte of the
 // map, and 0 is the rules' none.
-ghost use Rattle.std.specs.Prelude.{cond, ◌≡◌, ◌+◌, ◌-◌, ◌*◌, ◌%◌, ◌<◌, ◌≤◌, min};
+ghost use Rattle.std.specs.Prelude.{cond, true, ◌≡◌, ◌+◌, ◌-◌, ◌*◌, ◌%◌, ◌<◌, ◌≤◌, min};
 ghost use Rattle.rules.specs.Base.{tab, concat};
 ghost use Rattle.rules.specs.Reach.{reach_row, reach_plain, first_reason};
 ghost use Rattle.rdp.specs.View.{tile_of};
@@ -45,25 +45,34 @@ pub(crate) fn span_reason(reasons: &[u8; Bank::REASONS_SIZE], span: Span) -> u8
     0
 }
 
-// That of a row. One of a word at most has no words to go through. (By its span, a row with a reason took 25 to 60 instructions more.)
-fn row_reason(reasons: &[u8; Bank::REASONS_SIZE], rows: Rows, y: usize) -> u8
-    requires { y < bank_size }
+// That of a row. A short one, of a word at most, has no words to go through. (By its span, a row with a reason took 25 to 60 instructions
+// more. Which of the two it is, is told apart at compile time: each then has one caller, into which it is compiled, and the rows are not
+// copied for a call.)
+fn row_reason<const SHORT: bool>(reasons: &[u8; Bank::REASONS_SIZE], rows: Rows, y: usize) -> u8
+    requires y_bound { y < bank_size }
+    requires short { SHORT ≡ true → rows.bytes ≤ 8 }
     ensures { result ≡ first_reason reasons.now (reach_row (tile_of rows.asked.tile) rows.asked.tlut y) }
 {
-    if rows.bytes <= 8 {
+    if SHORT {
         return reason::word_reason(reasons, rows.row(y), 0);
     }
     span_reason(reasons, rows.row(y))
 }
 
 // That of some rows, from one up to another.
-fn some_rows(reasons: &[u8; Bank::REASONS_SIZE], rows: Rows, from: usize, to: usize) -> u8
-    requires { (from ≤ to) × (to ≤ bank_size) }
+fn some_rows<const SHORT: bool>(
+    reasons: &[u8; Bank::REASONS_SIZE],
+    rows: Rows,
+    from: usize,
+    to: usize,
+) -> u8
+    requires within { (from ≤ to) × (to ≤ bank_size) }
+    requires short { SHORT ≡ true → rows.bytes ≤ 8 }
     ensures { result
         ≡ first_reason reasons.now (concat (tab (to - from) (λ k. reach_row (tile_of rows.asked.tile) rows.asked.tlut (from + k)))) }
 {
     for y in from..to {
-        let reason = row_reason(reasons, rows, y);
+        let reason = row_reason::<SHORT>(reasons, rows, y);
         if reason != 0 {
             return reason;
         }
@@ -112,7 +121,7 @@ fn four_rows(reasons: &[u8; Bank::REASONS_SIZE], rows: Rows, y: usize, count: us
     if four_words(reasons, rows.row(0), rows.row(1), line, y * line) == 0 {
         return 0;
     }
-    some_rows(reasons, rows, y, (y + 4).min(count))
+    some_rows::<true>(reasons, rows, y, (y + 4).min(count))
 }
 
 // The words of four rows in one number, each whole: the bytes that its row reaches, and those beside them.
@@ -171,5 +180,5 @@ pub(crate) fn rows_reason(reasons: &[u8; Bank::REASONS_SIZE], asked: TileInMode)
     if rows.bytes <= 8 {
         return short_rows(reasons, rows, count);
     }
-    some_rows(reasons, rows, 0, count)
+    some_rows::<false>(reasons, rows, 0, count)
 }

@@ -1,5 +1,5 @@
 // Spans of addresses, word by word: a row of a tile, all that a lookup reaches, or its palette.
-ghost use Rattle.std.specs.Prelude.{true, ◌≡◌, ℕ, ◌+◌, ◌*◌, ◌-◌, ◌^◌, ◌<◌, ◌≤◌, min};
+ghost use Rattle.std.specs.Prelude.{true, cond, ◌≡◌, ℕ, ◌+◌, ◌*◌, ◌-◌, ◌^◌, ◌<◌, ◌≤◌, min};
 ghost use Rattle.std.specs.Int.Bits.{bit_and};
 ghost use Rattle.rules.specs.Base.{tab};
 ghost use Rattle.rules.specs.Reach.{reach_whole, palette_order};
@@ -191,22 +191,34 @@ impl Span {
         if self.sparse { bits & EVEN_BITS } else { bits }
     }
 
-    // All bits of those bytes, where the eight bytes of the word are one number.
-    pub(crate) fn lanes(self, w: usize) -> u64
-        requires { 8 * w < self.bytes }
-        ensures { result ≡ lanes_in self w }
+    // Of a number's bytes those that are reached, where every second one alone is.
+    fn reached_of(self, bytes: u64) -> u64
+        ensures { result ≡ cond self.sparse (bit_and bytes 71777214294589695) bytes }
     {
-        let first = first_bytes(self.rest(w));
-        let bytes = if self.odd {
-            first.rotate_left(32)
-        } else {
-            first
-        };
         if self.sparse {
             bytes & EVEN_BYTES
         } else {
             bytes
         }
+    }
+
+    // All bits of those bytes, where the eight bytes of the word are one number. A whole word, as most are, has no halves to change.
+    // (Without a test for it each word was shifted and turned, and the question took as long again.)
+    pub(crate) fn lanes(self, w: usize) -> u64
+        requires { 8 * w < self.bytes }
+        ensures { result ≡ lanes_in self w }
+    {
+        let rest = self.rest(w);
+        if 8 <= rest {
+            return self.reached_of(u64::MAX);
+        }
+        let first = first_bytes(rest);
+        let bytes = if self.odd {
+            first.rotate_left(32)
+        } else {
+            first
+        };
+        self.reached_of(bytes)
     }
 
     // Those bytes are zero in such a number. Most numbers are zero whole, which is tested first.

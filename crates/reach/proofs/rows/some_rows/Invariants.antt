@@ -6,6 +6,6 @@ use Rattle.rdp.specs.View.{tile_of}
 use Rattle.reach.proofs.rows.some_rows.Given as goal
 
 abbrev pub invariant-loop-y : goal.invariant-loop-y
-invariant-loop-y l =
+invariant-loop-y g l =
     let row = reach_row (tile_of l.rows.asked.tile) l.rows.asked.tlut in
     first_reason l.reasons (concat (tab (l.y - l.from) (λ k. row (l.from + k)))) ≡ 0
