@@ -17,7 +17,9 @@ pub(crate) struct SourceRow<'a> {
     pub(crate) format: Format,
     pub(crate) palette: u32,
     pub(crate) start: usize,
-    pub(crate) width: usize,
+    // Narrow: of a width that may be any `usize` the compiler tests at each row whether the places of its texels wrap, and decodes a
+    // row of eight texels one by one.
+    pub(crate) width: u32,
     pub(crate) ghost palette_bound: { palette ≤ 15 },
     pub(crate) ghost near: { start + 4 * width ≤ 4294967296 },
     pub(crate) ghost there: { whole ≡ true
@@ -75,9 +77,9 @@ impl<'a> SourceRow<'a> {
         ensures upper_bound { result ≤ 65536 }
     {
         if self.format.halved() {
-            (self.width + 1) / 2
+            (self.width as usize + 1) / 2
         } else {
-            self.format.reads() * self.width
+            self.format.reads() * self.width as usize
         }
     }
 

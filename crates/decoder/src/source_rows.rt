@@ -38,7 +38,7 @@ impl<'a> SourceRow<'a> {
             ≡ over (given (linear_part (rule_of self.entry.format) self.entry.palette self.entry.start self.entry.width)
             self.entry.source.now) out.old }
     {
-        let width = self.width;
+        let width = self.width as usize;
         // By index, as all loops that write: a proof loses what was written through `chunks_exact_mut`.
         for x in 0..width {
             let o = 4 * x;
@@ -57,7 +57,7 @@ impl<'a> SourceRow<'a> {
             ≡ over (given (linear_part (rule_of self.entry.format) self.entry.palette self.entry.start self.entry.width)
             self.entry.source.now) out.old }
     {
-        let pairs = self.width / 2;
+        let pairs = self.width as usize / 2;
         for k in 0..pairs {
             let x = 2 * k;
             let o = 8 * k;
@@ -115,7 +115,7 @@ impl<'a> SourceRow<'a> {
             self.entry.source.now) out.old }
     {
         let channels = self.texel(0);
-        let width = self.width;
+        let width = self.width as usize;
         for x in 0..width {
             let o = 4 * x;
             put_channels(channels, &mut out[o..]);
@@ -167,7 +167,7 @@ pub(crate) fn put_source_rows(
             format,
             palette: tile.palette,
             start: y * stride,
-            width,
+            width: tile.width,
         };
         let o = bytes * y;
         row.put(&mut out[o..]);
