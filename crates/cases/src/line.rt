@@ -1,6 +1,6 @@
 // A case's line: the name in 32 places, a letter for what is run, and columns of six places each. The first twelve are the tile
 // and the mode, in the order of the lister's record; the others are the call's own.
-ghost use Rattle.std.specs.Prelude.{◌<◌, ◌≤◌};
+ghost use Rattle.std.specs.Prelude.{◌<◌, ◌≤◌, length};
 
 use rdp::tile::TileDescriptor;
 use rdp::units::{LineWords, WordAddr};
@@ -31,7 +31,9 @@ impl Line {
     }
 
     // The name, up to its last byte that is not blank.
-    pub(crate) fn name(&self) -> &[u8] {
+    pub(crate) fn name(&self) -> &[u8]
+        ensures { length result.now ≤ 32 }
+    {
         let name = &self.bytes[..NAME];
         let last = name.iter().rposition(|byte| *byte != b' ');
         &name[..last.map_or(0, |last| last + 1)]

@@ -1,5 +1,7 @@
 // Pictures: `p` a plain one, `o` one with its trail, `s` a lookup. The output is name, refusal, reads, and the weight of picture and
 // trail as every lane left them.
+ghost use Rattle.std.specs.Prelude.{◌<◌, ◌^◌};
+
 use crate::line::{Line, OWN};
 use crate::{buffers, show};
 use decoder::picture::{sample_tile_lane, sample_tile_lane_observed, sampling_lookup_lane};
@@ -43,12 +45,18 @@ fn picture(
     }
 }
 
-fn weight(before: u64, bytes: &[u8]) -> u64 {
+fn weight(before: u64, bytes: &[u8]) -> u64
+    requires { before < 2 ^ 32 }
+    ensures { result < 2 ^ 32 }
+{
     show::weight(before, 31, 4294967296, bytes)
 }
 
 // One lane into fresh buffers: their weight comes on top of the weight before.
-fn in_buffers(case: &Line, bank: &[u8], lane: u32, before: u64) -> Told {
+fn in_buffers(case: &Line, bank: &[u8], lane: u32, before: u64) -> Told
+    requires { before < 2 ^ 32 }
+    ensures { result.weight < 2 ^ 32 }
+{
     let mut out: [u8; buffers::PICTURE] = buffers::all(0);
     let mut seen = [0u8; TRAIL_ROOM];
     buffers::fill(&mut out);

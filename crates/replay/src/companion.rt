@@ -1,5 +1,5 @@
 // The companion file, and the bytes of it that are held.
-ghost use Rattle.std.specs.Prelude.{◌≤◌};
+ghost use Rattle.std.specs.Prelude.{◌≡◌, ◌≤◌};
 ghost use Rattle.replay.specs.Piece.{held_size};
 
 use pieces::reader::{PieceReader, ReadPiece};
@@ -11,6 +11,14 @@ use std::io::{Read, Seek, SeekFrom};
 const HELD: usize = 65536;
 
 const AHEAD: usize = 4096;
+
+// A file that can be used, and its length. It is handed on without the bytes that are held, of which each step would have a copy on the
+// stack.
+#[derive(Drop)]
+pub(crate) struct Opened<F> {
+    file: F,
+    end: u64,
+}
 
 // The file with its length, whether a read of it fell short of that, and the bytes that are held: from which offset on, and how many.
 #[derive(Drop)]
@@ -31,27 +39,33 @@ fn size_from(file_end: u64, offset: u64, most: usize) -> usize
     file_end.saturating_sub(offset).min(most as u64) as usize
 }
 
-impl<F: Read + Seek> Companion<F> {
+impl<F: Read + Seek> Opened<F> {
     // A file that is open. One without a length, such as a pipe, or that cannot be read, such as a folder, is an error. What is read
     // is of no use.
-    pub(crate) fn new(mut file: F) -> io::Result<Companion<F>>
+    pub(crate) fn new(mut file: F) -> io::Result<Opened<F>>
     where
         F: Drop,
     {
-        let mut bytes = [0u8; HELD];
         let end = file.seek(SeekFrom::End(0))?;
-        file.read(&mut bytes)?;
-        Ok(Companion {
+        file.read(&mut [0u8; HELD])?;
+        Ok(Opened { file, end })
+    }
+}
+
+impl<F: Read + Seek> Companion<F> {
+    // Nothing is held yet.
+    pub(crate) fn new(opened: Opened<F>) -> Companion<F> {
+        Companion {
             reader: PieceReader {
-                reader: file,
+                reader: opened.file,
                 failed: Ok(()),
             },
-            end,
+            end: opened.end,
             is_shorter: false,
             start: 0,
-            bytes,
+            bytes: [0u8; HELD],
             size: 0,
-        })
+        }
     }
 
     // The bytes that are held.
@@ -61,7 +75,9 @@ impl<F: Read + Seek> Companion<F> {
 
     // Holds the bytes from an offset on, as many as a record states, or more, but no more than find room. It answers whether all were
     // read.
-    pub(crate) fn hold(&mut self, offset: u32, stated: u32) -> bool {
+    pub(crate) fn hold(&mut self, offset: u32, stated: u32) -> bool
+        ensures { self.new.end ≡ self.old.end }
+    {
         self.start = offset as u64;
         let wanted = (stated as usize).clamp(AHEAD, HELD);
         self.size = size_from(self.end, self.start, wanted);

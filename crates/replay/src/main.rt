@@ -12,7 +12,7 @@ ghost use Rattle.std.specs.Prelude.{◌≡◌, ◌+◌, ◌≤◌, length, OnOk}
 ghost use Rattle.pieces.specs.Text.{text_size};
 ghost use Rattle.replay.specs.Piece.{piece_room};
 
-use companion::Companion;
+use companion::{Companion, Opened};
 use pieces::reader::{PieceReader, ReadPiece};
 use pieces::text::{Text, WriteText};
 use record::numbers::four_at;
@@ -51,7 +51,7 @@ fn bytes_of(records: usize, input: &[u8]) -> usize
 
 impl<F: Read + Seek> Replayer<F> {
     // Before the first record.
-    fn new(companion: Companion<F>) -> Replayer<F>
+    fn new(opened: Opened<F>) -> Replayer<F>
         ensures { result.text.end ≡ 0 }
     {
         let fresh = Bank::fresh();
@@ -61,7 +61,7 @@ impl<F: Read + Seek> Replayer<F> {
             written: [0u8; Bank::WRITTEN_SIZE],
             reasons: [0u8; Bank::REASONS_SIZE],
             last: 0,
-            companion,
+            companion: Companion::new(opened),
             text: Text::default(),
         }
     }
@@ -166,9 +166,9 @@ fn say_unusable(rt: &(impl Eprint + Alloc), path: &str, error: io::Error) -> io:
 // Replays with a companion file that is open.
 fn replay_with<F: Read + Seek + Drop>(
     rt: &(impl Input + Print + Eprint),
-    companion: Companion<F>,
+    opened: Opened<F>,
 ) -> io::Result<()> {
-    let mut replayer = Replayer::new(companion);
+    let mut replayer = Replayer::new(opened);
     let mut records = piece_buffer();
     let mut input = PieceReader {
         reader: rt.reader(),
@@ -182,8 +182,8 @@ fn replay_with<F: Read + Seek + Drop>(
 
 // Opens the companion file, and replays with it.
 fn replay(rt: &(impl Files + Input + Print + Eprint + Alloc), path: &str) -> io::Result<()> {
-    match File::open(rt, path).and_then(|file| Companion::new(file)) {
-        Ok(companion) => replay_with(rt, companion),
+    match File::open(rt, path).and_then(|file| Opened::new(file)) {
+        Ok(opened) => replay_with(rt, opened),
         Err(error) => say_unusable(rt, path, error),
     }
 }

@@ -34,19 +34,19 @@ impl Tally {
     }
 }
 
-// The next record, if there is a whole one.
-fn read_record<R: Read>(input: &mut R) -> io::Result<Option<Record>> {
-    let mut r = Record::zero();
+// Reads the next record, and answers whether there was a whole one. A torn one has the bytes that came.
+fn read_record<R: Read>(input: &mut R, r: &mut Record) -> io::Result<bool> {
     match input.read_exact(&mut r.bytes) {
-        Ok(()) => Ok(Some(r)),
-        Err(error) if error.kind() == ErrorKind::UnexpectedEof => Ok(None),
+        Ok(()) => Ok(true),
+        Err(error) if error.kind() == ErrorKind::UnexpectedEof => Ok(false),
         Err(error) => Err(error),
     }
 }
 
 // The first record says how the file was made; the others are replayed, ten thousand at most.
 fn replay<R: Read>(input: &mut R) -> io::Result<Tally> {
-    let head = read_record(input)?.unwrap_or(Record::zero());
+    let mut head = Record::zero();
+    read_record(input, &mut head)?;
     let mut tally = Tally {
         cases: 0,
         wrong: 0,
@@ -54,7 +54,8 @@ fn replay<R: Read>(input: &mut R) -> io::Result<Tally> {
         whole: false,
     };
     for _ in 0..10000u32 {
-        if let Some(r) = read_record(input)? {
+        let mut r = Record::zero();
+        if read_record(input, &mut r)? {
             tally.add(&r);
         }
     }
