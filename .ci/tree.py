@@ -10,7 +10,9 @@ from typing import NamedTuple
 
 # Text in which a bracket or a word means nothing: comments, strings, characters and bytes.
 QUIET = re.compile(r"//[^\n]*|/\*.*?\*/|\bb?\"(?:\\.|[^\"\\])*\"|\"(?:\\.|[^\"\\])*\"|(?:\bb)?'(?:\\[^']+|[^'\\\n])'", re.S)
-SCOPE = re.compile(r"\b(?:impl\b\s*(?:<[^>]*>)?\s*(?:[\w:]+\s*(?:<[^>]*>)?\s+for\s+)?(\w+)\s*(?:<[^>]*>)?|mod\s+(\w+))\s*\{")
+# What stands in angle brackets, which may hold two more pairs of them: `From<Result<Option<Fault>, Refusal>>`.
+ANGLES = r"(?:<(?:[^<>]|<(?:[^<>]|<[^<>]*>)*>)*>)?"
+SCOPE = re.compile(rf"\b(?:impl\b\s*{ANGLES}\s*(?:[\w:]+\s*{ANGLES}\s+for\s+)?(\w+)\s*{ANGLES}|mod\s+(\w+))\s*\{{")
 FUNCTION = re.compile(r'(?:\b(pub)(\s*\([^)]*\))?\s+)?(?:(?:const|unsafe|extern\s+"C")\s+)*\bfn\s+(\w+)')
 # What can follow a function's parameters: a clause, which can have a star and a name, an array's type, its body, or the end of one
 # without a body.

@@ -1,15 +1,17 @@
 -- A record's part in the piece of the companion file that is at hand.
-use mathlib.Core.Path.{◌≡◌, refl}
+use mathlib.Core.Path.{◌≡◌, refl, sym, ◌∙◌}
 use mathlib.Core.Bool.{Bool, true, false, not, ◌&&◌}
 use mathlib.Core.List.{List, []}
-use Prim.Native.Nat.{ℕ, ◌+◌, ◌-◌, ◌<◌, ◌≤◌}
+use Prim.Native.Nat.{ℕ, ◌+◌, ◌-◌, ◌<◌, ◌≤◌, min}
 use native.Mathlib.Omega.{arith}
 use native.Mathlib.Decide.{dec_lt}
 use lib.Dec.{ltb}
 use lib.ListN.{length, take, drop}
+use lib.Seq.{take_all}
 use borrow.Author.Tests.{lt-ltb, le-ltb, ne_eqb}
 use Rattle.rules.specs.Refusal.{first}
-use Rattle.rules.specs.Replay.{offset_in, size_in, asks_key, record_tests, Carried, outcome, Piece, takes_part, at_hand, part_in, in_piece}
+use Rattle.rules.specs.Replay.{offset_in, size_in, asks_key, record_tests, Carried, outcome, part_of}
+use Rattle.rules.specs.Replay.{Piece, takes_part, at_hand, part_in, in_piece}
 
 module _ (p : Piece) (r : List ℕ) where
   -- a record that takes no part
@@ -60,3 +62,14 @@ module _ (end : ℕ) (r : List ℕ) where
   pub load_takes : 0 ≡ first (record_tests end r) → asks_key r ≡ false → takes_part end r ≡ true
   unfolding takes_part
   load_takes e k = rw (← e, k)
+
+-- the stated bytes of a part, as far as it has them
+pub named_part : (r part : List ℕ) (n : ℕ) → n ≡ min (size_in r) (length part) → take n part ≡ part_of r part
+named_part r part n e = go (dec_lt (size_in r) (length part))
+  where
+    go : Dec (size_in r < length part) → take n part ≡ part_of r part
+    go (yes l) = let s : n ≡ size_in r = omega arith in rw s
+    go (no l) =
+        let a : length part ≤ n = omega (arith, l) in
+        let b : length part ≤ size_in r = omega (arith, l) in
+        take_all _ _ a ∙ sym (take_all _ _ b)

@@ -1,13 +1,15 @@
 -- The records that are ready, counted from the first on.
 use mathlib.Core.Path.{◌≡◌, refl, ◌∙◌}
-use mathlib.Core.Bool.{true, false, cond}
-use mathlib.Core.List.{List}
-use Prim.Native.Nat.{ℕ, suc, ◌+◌, ◌-◌, ◌<◌}
+use mathlib.Core.Bool.{Bool, true, false, cond}
+use mathlib.Core.List.{List, [], ◌∷◌}
+use Prim.Native.Nat.{ℕ, zero, suc, ◌+◌, ◌-◌, ◌<◌}
 use native.Mathlib.Omega.{arith}
 use native.Mathlib.Nat.{zero-add}
 use native.Mathlib.Numerals.{add-one}
+use lib.ListN.{get_or}
 use Rattle.rules.specs.Base.{tab, tab_from}
 use Rattle.rules.specs.Replay.{Piece, at_hand, ready}
+use Rattle.rules.proofs.Tables.{get_or-tab}
 
 module _ (p : Piece) (f : ℕ → List ℕ) where
   -- record i, and how many of those after it are ready
@@ -43,3 +45,19 @@ module _ (p : Piece) (f : ℕ → List ℕ) where
       let none : ready p (tab_from n 0 f) ≡ 0 = refl in
       let b : ready p (tab n f) ≡ n + ready p (tab_from n 0 f) = rw e at a in
       omega arith
+
+-- a ready record's part is at hand
+ready_ahead : (p : Piece) (l : List (List ℕ)) (i : ℕ) → i < ready p l → at_hand p (get_or l i []) ≡ true
+unfolding ready
+ready_ahead p [] i h = absurd (omega arith)
+ready_ahead p (r ∷ l) i h = go (at_hand p r) refl i h (ready_ahead p l)
+  where
+    go : (b : Bool) → at_hand p r ≡ b → (i : ℕ) → i < cond b (suc (ready p l)) 0 →
+        ((j : ℕ) → j < ready p l → at_hand p (get_or l j []) ≡ true)
+        → at_hand p (get_or (r ∷ l) i []) ≡ true
+    go false e i k ih = absurd (omega arith)
+    go true e zero k ih = e
+    go true e (suc i) k ih = ih i (omega arith)
+
+pub ready-at_hand : (p : Piece) (f : ℕ → List ℕ) (n i : ℕ) → i < n → i < ready p (tab n f) → at_hand p (f i) ≡ true
+ready-at_hand p f n i h k = rw (get_or-tab n f i [] h) at (ready_ahead p (tab n f) i k)

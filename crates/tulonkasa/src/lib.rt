@@ -3,7 +3,7 @@
 // interface, which stays as it is.
 #![tactic(auto)]
 
-mod answer;
+pub mod answer;
 pub mod files;
 pub mod keys;
 pub mod loads;
