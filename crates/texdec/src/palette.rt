@@ -1,6 +1,6 @@
 // The entry of the lookup table that a byte of a texel stands for.
 ghost use Rattle.std.specs.Prelude.{◌≡◌};
-ghost use Rattle.rules.specs.Texdec.{index_part, part_index};
+ghost use Rattle.rules.specs.Texdec.{nibble, index_part, part_index};
 
 use crate::nibble::nibble;
 
@@ -23,13 +23,22 @@ pub fn index_part(fmt: u32, siz: u32) -> u32
     if fmt == 1 { HIGH_NIBBLE } else { NIBBLE }
 }
 
+// The nibble of a byte that x takes, as part of an index. The byte is made wide before the nibble is chosen: made wide after that, as
+// with `nibble`, each texel of a picture of nibbles took three instructions more.
+fn index_nibble(x: usize, byte: u8) -> usize
+    ensures { result ≡ nibble x byte }
+{
+    let wide = byte as usize;
+    if x % 2 == 0 { wide >> 4 } else { wide % 16 }
+}
+
 // The byte itself, or the tile's palette and the nibble.
 pub fn palette_index(part: u32, palette: u32, x: usize, byte: u8) -> usize
     ensures { result ≡ part_index part palette x byte }
 {
     match part {
         WHOLE_BYTE => byte as usize,
-        NIBBLE => palette as usize * 16 + nibble(x, byte) as usize,
+        NIBBLE => palette as usize * 16 + index_nibble(x, byte),
         _ => palette as usize * 16 + nibble(0, byte) as usize,
     }
 }
