@@ -203,7 +203,7 @@ impl Span {
     }
 
     // All bits of those bytes, where the eight bytes of the word are one number. A whole word, as most are, has no halves to change.
-    // (Without a test for it each word was shifted and turned, and the question took as long again.)
+    // (Without a test for it each word was shifted and turned, and the question took two thirds more time.)
     pub(crate) fn lanes(self, w: usize) -> u64
         requires { 8 * w < self.bytes }
         ensures { result ≡ lanes_in self w }
